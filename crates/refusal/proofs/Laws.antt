@@ -1,0 +1,22 @@
+-- What the order of refusals says of every call, whatever its checks.
+-- Assumes nothing.
+use mathlib.Core.Path.{_≡_, refl, sym, _∙_, ap}
+use mathlib.Core.Bool.{Bool, true, false, cond}
+use mathlib.Core.List.{List, [], _∷_}
+use Prim.Native.Nat.{ℕ}
+use lib.Dec.{eqb}
+use borrow.Author.Tests.{eq-eqb, ne-eqb}
+use Rattle.refusal.specs.Order.{Check, refusalOf, outcome, left}
+
+module _ {A : Type 0} (cs : List Check) where
+  -- a call that is not refused does its work
+  pub done : (f : ℕ → A) (x : A) → refusalOf cs ≡ 0 → outcome cs f x ≡ x
+  done f x h = ap (λ (b : Bool). cond b x (f (refusalOf cs))) (eq-eqb (refusalOf cs) 0 h)
+
+  -- a call that is refused answers with that number
+  pub refused : (f : ℕ → A) (x : A) → (refusalOf cs ≡ 0 → ⊥) → outcome cs f x ≡ f (refusalOf cs)
+  refused f x h = ap (λ (b : Bool). cond b x (f (refusalOf cs))) (ne-eqb (refusalOf cs) 0 h)
+
+  -- a refusal hands back what it was given
+  pub hands-back : (old new : A) → (refusalOf cs ≡ 0 → ⊥) → left cs old new ≡ old
+  hands-back old new h = refused (λ n. old) new h
