@@ -1,0 +1,10 @@
+pub mod Numbers
+pub mod States
+pub mod Fresh
+pub mod Lent
+pub mod Offer
+pub mod Send
+pub mod Reply
+pub mod Tick
+pub mod Arrival
+pub mod Bench
