@@ -3,7 +3,7 @@
 use mathlib.Core.Path.{_≡_, refl}
 use Rattle.retry_rules.specs.Numbers.{sizeAllowed, amongLast, countRule}
 use Rattle.retry_rules.specs.States.{linkRule, timerRule, windowRule, countersRule, slotRule, slotsRule, senderRule, receiverRule}
-use Rattle.retry_rules.specs.Fresh.{freshSenderOf, freshReceiverOf, freshChecks}
+use Rattle.retry_rules.specs.Fresh.{freshSenderOf, freshReceiverOf, freshChecks, sizeChecks}
 use Rattle.retry_rules.specs.Offer.{offerChecks, offerOf}
 use Rattle.retry_rules.specs.Send.{sendChecks, sendOf}
 use Rattle.retry_rules.specs.Reply.{acked, nacked, heard, senderChecks, replyChecks, replyOf}
@@ -11,7 +11,7 @@ use Rattle.retry_rules.specs.Arrival.{arrivalChecks, answerTo, arrivalOf
 use Rattle.retry_rules.specs.Bench.{Rows}
 
 pub rows : Rows
-unfolding sizeAllowed amongLast countRule linkRule timerRule windowRule countersRule slotRule slotsRule senderRule receiverRule freshChecks freshSenderOf freshReceiverOf offerChecks offerOf sendChecks sendOf acked nacked heard senderChecks replyChecks replyOf arrivalChecks answerTo arrivalOf
+unfolding sizeAllowed amongLast countRule linkRule timerRule windowRule countersRule slotRule slotsRule senderRule receiverRule freshChecks sizeChecks freshSenderOf freshReceiverOf offerChecks offerOf sendChecks sendOf acked nacked heard senderChecks replyChecks replyOf arrivalChecks answerTo arrivalOf
 rows =
     record {
       fresh-12 = refl;

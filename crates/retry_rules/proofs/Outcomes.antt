@@ -11,6 +11,7 @@ use Rattle.laws.specs.Lists.{allOf, oneOf}
 use Rattle.laws.proofs.Bools.{and-left, and-right, and-both, T-true, true-T}
 use Rattle.laws.proofs.Cases.{by-cases, by-test, cond-true, cond-false, false-is-not-true}
 use Rattle.refusal.specs.Order.{Check, order, given, firstOf, refusalOf, outcome}
+use Rattle.refusal.proofs.Laws.{refused}
 
 -- no check applies
 abbrev pub passed : List Check → Bool
@@ -93,3 +94,11 @@ module _ {A : Type 0} (cs : List Check) where
       (number : A → ℕ) (f : ℕ → A) (x : A) → ((n : ℕ) → number (f n) ≡ n) → number x ≡ 0 → number (outcome cs f x) ≡ refusalOf cs
   number-is number f x p q =
       either-way (λ (a : A). number a ≡ refusalOf cs) f x (λ e. q ∙ sym e) (λ e. p (refusalOf cs))
+
+  -- a refusal, told by its number, answers with what is made of it
+  pub leaves-answer :
+      (number : A → ℕ) (f : ℕ → A) (x : A) → ((n : ℕ) → number (f n) ≡ n) → number x ≡ 0 → (number (outcome cs f x) ≡ 0 → ⊥)
+      → outcome cs f x ≡ f (number (outcome cs f x))
+  leaves-answer number f x p q h =
+      let e = number-is number f x p q in
+      refused cs f x (λ z. h (e ∙ z)) ∙ ap f (sym e)

@@ -22,8 +22,8 @@ use Rattle.retry_rules.specs.States.{isUp, isDown, linkRule, timerRule, 
 pub record Counted (n count : ℕ) : Type 0 where
   pub number-lt : n < 16
   pub count-le : count ≤ 8
-  pub not-over : n - count ≤ 16 * (count / 8)
-  pub not-under : count - n ≤ 16 * (count / 8)
+  pub not-over : n ≤ count + 16 * (count / 8)
+  pub not-under : count ≤ n + 16 * (count / 8)
 
 pub counted : (n k : ℕ) → countRule n k ≡ true → Counted n k
 unfolding countRule
@@ -63,10 +63,10 @@ pub record Linked (c : Counters) : Type 0 where
   pub link-pos : 0 < c .link
   pub link-le : c .link ≤ 2
   pub few : c .expiries ≤ c .link + 1
-  pub third : 3 * (c .link - 1) ≤ c .expiries
-  pub stands : c .columns - c .timer ≤ 65535 * (2 - c .link)
-  pub held : c .link - 1 ≤ c .outstanding
-  pub idle : c .columns - c .timer + c .expiries ≤ 70000 * c .outstanding
+  pub third : 3 * c .link ≤ c .expiries + 3
+  pub stands : c .columns + 65535 * c .link ≤ c .timer + 131070
+  pub held : c .link ≤ c .outstanding + 1
+  pub idle : c .columns + c .expiries ≤ c .timer + 70000 * c .outstanding
 
 -- the sender's numbers
 pub record Numbers (c : Counters) : Type 0 where

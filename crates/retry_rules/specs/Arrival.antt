@@ -10,6 +10,7 @@ use Rattle.retry_rules.specs.declared.Receiver.{Receiver}
 use Rattle.retry_rules.specs.declared.Arrived.{Arrived}
 use Rattle.retry_rules.specs.Numbers.{after, oneMore, amongLast}
 use Rattle.retry_rules.specs.States.{receiverRule}
+use Rattle.retry_rules.specs.Refused.{refusedArrival}
 use Rattle.retry_rules.specs.Lent.{laid}
 
 -- the expected number, and room: the segment is delivered
@@ -25,11 +26,11 @@ abbrev pub advanced : Receiver → Receiver
 advanced r =
     record { expected = after (r .expected) 1; received = oneMore (r .received); size = r .size }
 
--- nothing is delivered: a refusal, or a reply
-abbrev pub undelivered : ℕ → Bool → ℕ → Receiver → Arrived
-undelivered refusal nack number r =
+-- nothing is delivered, and a reply goes out
+abbrev pub undelivered : Bool → ℕ → Receiver → Arrived
+undelivered nack number r =
     record {
-      refusal = refusal;
+      refusal = 0;
       delivered = false;
       nack = nack;
       number = number;
@@ -41,7 +42,7 @@ undelivered refusal nack number r =
 
 -- a NACK carries the expected number
 abbrev pub nackOf : Receiver → Arrived
-nackOf r = undelivered 0 true (r .expected) r
+nackOf r = undelivered true (r .expected) r
 
 -- deliver, advance, ACK that number
 abbrev pub delivery : Receiver → ℕ → ℕ → Bool → ℕ → Arrived
@@ -61,12 +62,12 @@ delivery r k channel bad n =
 unfoldable pub answerTo : Receiver → ℕ → ℕ → Bool → ℕ → Bool → Arrived
 answerTo r k channel bad n room =
     cond (eqb k (r .expected)) (cond room (delivery r k channel bad n) (nackOf r))
-    (cond (amongLast (r .received) (r .expected) k) (undelivered 0 false k r) (nackOf r))
+    (cond (amongLast (r .received) (r .expected) k) (undelivered false k r) (nackOf r))
 
 -- what the arrival of a valid segment answers
 unfoldable pub arrivalOf : Receiver → ℕ → ℕ → Bool → ℕ → Bool → ℕ → Arrived
 arrivalOf r k channel bad n room output =
-    outcome (arrivalChecks r k channel n room output) (λ refusal. undelivered refusal false 0 r) (answerTo r k channel bad n room)
+    outcome (arrivalChecks r k channel n room output) (refusedArrival r) (answerTo r k channel bad n room)
 
 -- what the output holds after it: the bytes, if they are delivered
 unfoldable pub arrivalOutput : Receiver → ℕ → ℕ → List ℕ → Bool → List ℕ → List ℕ
@@ -74,7 +75,10 @@ arrivalOutput r k channel bytes room output =
     left (arrivalChecks r k channel (length bytes) room (length output)) output
     (cond (wanted r k room) (laid output 0 bytes) output)
 
+unfoldable pub receiverChecks : Receiver → List Check
+receiverChecks r = check 1 (not (receiverRule r)) ∷ []
+
 -- what the arrival of a damaged segment answers
 unfoldable pub damagedArrivalOf : Receiver → Arrived
 damagedArrivalOf r =
-    outcome (check 1 (not (receiverRule r)) ∷ []) (λ refusal. undelivered refusal false 0 r) (nackOf r)
+    outcome (receiverChecks r) (refusedArrival r) (nackOf r)

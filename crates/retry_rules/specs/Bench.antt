@@ -35,10 +35,10 @@ hears nack k s = replyOf s nack k .sender
 
 -- an arrival is answered with ACK k, or NACK k, and nothing else happens
 abbrev pub AnswersAck : Receiver → ℕ → ℕ → Type 0
-AnswersAck r n k = arrives r n ≡ undelivered 0 false k r
+AnswersAck r n k = arrives r n ≡ undelivered false k r
 
 abbrev pub AnswersNack : Receiver → ℕ → ℕ → Type 0
-AnswersNack r n k = arrives r n ≡ undelivered 0 true k r
+AnswersNack r n k = arrives r n ≡ undelivered true k r
 
 -- the number of the oldest, how many are stored, the send point
 abbrev pub Stands : Sender → ℕ → ℕ → ℕ → Type 0

@@ -10,6 +10,7 @@ use Rattle.retry_rules.specs.declared.Answered.{Answered}
 use Rattle.retry_rules.specs.declared.Begun.{Begun}
 use Rattle.retry_rules.specs.Numbers.{sizeAllowed, timeAllowed}
 use Rattle.retry_rules.specs.States.{senderRule}
+use Rattle.retry_rules.specs.Refused.{refusedSender, refusedReceiver}
 
 -- nothing stored, the timer at its start; the next segment has number 0
 abbrev pub senderWith : ℕ → ℕ → ℕ → Sender
@@ -43,22 +44,28 @@ noSender = senderWith 0 0 0
 abbrev pub noReceiver : Receiver
 noReceiver = freshReceiver 0
 
+-- T from 1 to 65,535, and S allowed
 unfoldable pub freshChecks : ℕ → ℕ → List Check
 freshChecks t s = check 1 (not (timeAllowed t)) ∷ check 2 (not (sizeAllowed s)) ∷ []
 
 -- a fresh sender with the T and S that are given; refused, there is none
 unfoldable pub freshSenderOf : ℕ → ℕ → Answered
 freshSenderOf t s =
-    outcome (freshChecks t s) (λ n. record { refusal = n; sender = noSender })
-    (record { refusal = 0; sender = freshSender t s })
+    outcome (freshChecks t s) (refusedSender noSender) (record { refusal = 0; sender = freshSender t s })
 
+unfoldable pub sizeChecks : ℕ → List Check
+sizeChecks s = check 2 (not (sizeAllowed s)) ∷ []
+
+-- a fresh receiver with the S that is given; refused, there is none
 unfoldable pub freshReceiverOf : ℕ → Begun
 freshReceiverOf s =
-    outcome (check 2 (not (sizeAllowed s)) ∷ []) (λ n. record { refusal = n; receiver = noReceiver })
-    (record { refusal = 0; receiver = freshReceiver s })
+    outcome (sizeChecks s) (refusedReceiver noReceiver) (record { refusal = 0; receiver = freshReceiver s })
 
--- a reset, which a link that is down does not refuse: a fresh sender with the T and S that are given
+-- a reset is not refused for a link that is down
+unfoldable pub resetChecks : Sender → ℕ → ℕ → List Check
+resetChecks given t s = check 1 (not (senderRule given)) ∷ freshChecks t s
+
+-- a fresh sender with the T and S that are given; refused, the one that was given, with all that is stored
 unfoldable pub resetOf : Sender → ℕ → ℕ → Answered
 resetOf given t s =
-    outcome (check 1 (not (senderRule given)) ∷ freshChecks t s) (λ n. record { refusal = n; sender = given })
-    (record { refusal = 0; sender = freshSender t s })
+    outcome (resetChecks given t s) (refusedSender given) (record { refusal = 0; sender = freshSender t s })

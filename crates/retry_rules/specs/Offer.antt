@@ -11,6 +11,7 @@ use Rattle.retry_rules.specs.declared.Sender.{Sender}
 use Rattle.retry_rules.specs.declared.Offered.{Offered}
 use Rattle.retry_rules.specs.Numbers.{after}
 use Rattle.retry_rules.specs.States.{isDown, senderRule, buffersRule, slotOf}
+use Rattle.retry_rules.specs.Refused.{refusedOffer}
 use Rattle.retry_rules.specs.Lent.{laid, bufferAt}
 
 unfoldable pub offerChecks : Sender → ℕ → ℕ → ℕ → List Check
@@ -55,7 +56,7 @@ storedIn s channel bad n =
 -- what an offer answers
 unfoldable pub offerOf : Sender → ℕ → ℕ → Bool → ℕ → Offered
 offerOf s lent channel bad n =
-    outcome (offerChecks s lent channel n) (λ r. record { refusal = r; number = 0; sender = s })
+    outcome (offerChecks s lent channel n) (refusedOffer s)
     (record { refusal = 0; number = nextNumber (s .counters); sender = storedIn s channel bad n })
 
 -- what the eight buffers hold after it

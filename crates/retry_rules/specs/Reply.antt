@@ -9,6 +9,7 @@ use Rattle.retry_rules.specs.declared.Sender.{Sender}
 use Rattle.retry_rules.specs.declared.Answered.{Answered}
 use Rattle.retry_rules.specs.Numbers.{after, oneMore, amongLast}
 use Rattle.retry_rules.specs.States.{isDown, senderRule}
+use Rattle.retry_rules.specs.Refused.{refusedSender}
 
 -- the send point at a place, the timer at a number of ticks with so many expiries counted, all else as it was
 abbrev pub pointAt : ℕ → Counters → Counters
@@ -92,10 +93,10 @@ withCounters s c = record { counters = c; slots = s .slots }
 -- what a reply with the number k answers
 unfoldable pub replyOf : Sender → Bool → ℕ → Answered
 replyOf s nack k =
-    outcome (replyChecks s k) (λ r. record { refusal = r; sender = s })
+    outcome (replyChecks s k) (refusedSender s)
     (record { refusal = 0; sender = withCounters s (heard (s .counters) nack k) })
 
 -- a damaged reply: ignored
 unfoldable pub damagedReplyOf : Sender → Answered
 damagedReplyOf s =
-    outcome (senderChecks s) (λ r. record { refusal = r; sender = s }) (record { refusal = 0; sender = s })
+    outcome (senderChecks s) (refusedSender s) (record { refusal = 0; sender = s })

@@ -11,6 +11,7 @@ use Rattle.retry_rules.specs.declared.Sender.{Sender}
 use Rattle.retry_rules.specs.declared.Sent.{Sent}
 use Rattle.retry_rules.specs.Numbers.{after}
 use Rattle.retry_rules.specs.States.{isDown, senderRule, buffersRule, slotOf}
+use Rattle.retry_rules.specs.Refused.{refusedSend}
 use Rattle.retry_rules.specs.Lent.{laid, heldLength, heldBytes}
 
 -- the send point is not past the last stored segment
@@ -45,9 +46,9 @@ oneSent c =
       link = c .link;
     }
 
-abbrev pub nothingSent : ℕ → Sender → Sent
-nothingSent r s =
-    record { refusal = r; sent = false; number = 0; channel = 0; bad = false; length = 0; sender = s }
+-- nothing to send: no refusal, and the same sender
+abbrev pub nothingSent : Sender → Sent
+nothingSent s = refusedSend s 0
 
 abbrev pub dueSent : Sender → Sent
 dueSent s =
@@ -64,7 +65,7 @@ dueSent s =
 -- what a send answers
 unfoldable pub sendOf : Sender → ℕ → ℕ → Sent
 sendOf s lent output =
-    outcome (sendChecks s lent output) (λ r. nothingSent r s) (cond (toSend (s .counters)) (dueSent s) (nothingSent 0 s))
+    outcome (sendChecks s lent output) (refusedSend s) (cond (toSend (s .counters)) (dueSent s) (nothingSent s))
 
 -- what the output holds after it
 unfoldable pub sendOutput : Sender → List ℕ → List ℕ → List ℕ

@@ -1,12 +1,13 @@
 -- A tick: one column. The timer runs while something is outstanding; the T-th tick since its start is its expiry.
 use Prim.Native.Nat.{ℕ, _+_, _-_}
-use mathlib.Core.Bool.{Bool, false, cond}
+use mathlib.Core.Bool.{Bool, cond}
 use lib.Dec.{ltb, eqb}
 use Rattle.refusal.specs.Order.{outcome}
 use Rattle.retry_rules.specs.declared.Counters.{Counters}
 use Rattle.retry_rules.specs.declared.Sender.{Sender}
 use Rattle.retry_rules.specs.declared.Ticked.{Ticked}
 use Rattle.retry_rules.specs.States.{isDown}
+use Rattle.retry_rules.specs.Refused.{refusedTick}
 use Rattle.retry_rules.specs.Reply.{timerAt, toOldest, senderChecks, withCounters}
 
 -- an expiry is counted and the timer is at its start
@@ -40,5 +41,5 @@ ticked c =
 -- what a tick answers; the call that takes the link down says so and is not itself refused
 unfoldable pub tickOf : Sender → Ticked
 tickOf s =
-    outcome (senderChecks s) (λ r. record { refusal = r; fell = false; sender = s })
+    outcome (senderChecks s) (refusedTick s)
     (record { refusal = 0; fell = isDown (ticked (s .counters)); sender = withCounters s (ticked (s .counters)) })
