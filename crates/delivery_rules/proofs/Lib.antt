@@ -1,2 +1,10 @@
 pub mod Ordered
 pub mod Drills
+pub mod Round
+pub mod Lines
+pub mod Buffers
+pub mod Calls
+pub mod Invariant
+pub mod Seeing
+pub mod SenderSteps
+pub mod ReplySteps

@@ -1,0 +1,213 @@
+-- An offer, a send, a reply and a tick of our sender keep what holds at every moment.
+-- Assumes nothing.
+use mathlib.Core.Path.{_≡_, refl, sym, _∙_, ap, subst}
+use mathlib.Core.Bool.{Bool, true, false, cond, _&&_}
+use mathlib.Core.List.{List, [], _∷_, _++_}
+use Prim.Native.Nat.{ℕ, zero, suc, _+_, _-_, _*_, _%_, _≤_, _<_, min, max}
+use native.Mathlib.Omega.{arith}
+use native.Mathlib.Decide.{decLt}
+use lib.Dec.{ltb, eqb}
+use lib.ListN.{length, getD, take, length-append, List·getD-append}
+use lib.Seq.{take-append-le, getD-append-seam}
+use borrow.Author.Tests.{ltb-true, ltb-false, eqb-true, eqb-false, lt-ltb, le-ltb, eq-eqb, ne-eqb}
+use Rattle.laws.proofs.Cases.{by-cases, by-test, both-true, cond-true, cond-false}
+use Rattle.retry_rules.specs.declared.Counters.{Counters}
+use Rattle.retry_rules.specs.declared.Sender.{Sender}
+use Rattle.retry_rules.specs.States.{senderRule, slotOf, Eight}
+use Rattle.retry_rules.specs.Numbers.{amongLast}
+use Rattle.retry_rules.specs.Lent.{laid, bufferAt, heldBytes}
+use Rattle.retry_rules.specs.Offer.{freeSlot, storedIn, offerOf}
+use Rattle.retry_rules.specs.Send.{toSend, dueSlot, sendPoint, oneSent, sendOf}
+use Rattle.retry_rules.specs.Reply.{toOldest, restarted, oneReleased, acked, nacked, heard, withCounters}
+use Rattle.retry_rules.specs.Tick.{expired, fallen, ticked, tickOf}
+use Rattle.retry_rules.proofs.StoredSlots.{stored-slot}
+use Rattle.retry_rules.proofs.Seen.{Sound, Hears, Offers}
+use Rattle.retry_rules.proofs.Kept.{offer-kept, offer-eight, send-kept, reply-kept, tick-kept}
+use Rattle.delivery_rules.specs.Model.{
+  Content,
+  Item,
+  segment,
+  damaged,
+  Reply,
+  ack,
+  nack,
+  damaged-reply,
+  Offering,
+  Sending,
+  Seen,
+  isUp,
+  outstanding,
+  isRunning,
+  goneWith,
+  seenWith,
+  seenReply,
+  seenTick,
+  World,
+  offered,
+  sent,
+  told,
+  hears,
+}
+use Rattle.delivery_rules.specs.Demand.{noContent, Good}
+use Rattle.delivery_rules.specs.Ours.{hearing, ours}
+use Rattle.delivery_rules.proofs.Round.{other-buffer, other-number, same-buffer, same-number}
+use Rattle.delivery_rules.proofs.Lines.{Line, weaken, lower, snoc, tail, first}
+use Rattle.delivery_rules.proofs.Buffers.{holding, stored-length, stored-holds, stored-others}
+use Rattle.delivery_rules.proofs.Calls.{taken, turnedDown, offer-either, goes, stays, send-either, ack-heard, nack-heard, damaged-heard, ticks, down-reply, down-tick}
+use Rattle.delivery_rules.proofs.Invariant.{IsItem, IsAck, IsIdle, Inv, numbers, slots-rule, up, down, retimed, retimed-inv}
+
+-- one more accepted: what stood at a place stands there
+grown : (acc : List Content) (x : Content) (a : Item) (j : ℕ) → j < length acc → IsItem acc a j → IsItem (acc ++ x ∷ []) a j
+grown acc x (segment k y) j h t = (t .0, t .1 ∙ sym (List·getD-append acc (x ∷ []) noContent j h))
+grown acc x damaged j h t = t
+
+module _ (S : ℕ) (w : World ours) (v : Inv S w) where
+  -- an offer that is accepted
+  taken-inv :
+      (x : Content) → Offers (w .sender) (length (w .buffers)) (x .channel) (length (x .bytes))
+      → senderRule (taken (w .sender) (w .buffers) x .state) ≡ true → Eight (taken (w .sender) (w .buffers) x .state)
+      → Inv S (offered ours w x (taken (w .sender) (w .buffers) x))
+  taken-inv x o rule eight =
+      let s = w .sender in
+      let c = s .counters in
+      let g = w .seen in
+      let acc = g .accepted in
+      let n = numbers s (v .rule) .numbers in
+      let u = v .counts in
+      let f = v .follows in
+      let free = o .free in
+      let fits : Good (c .size) x = record { channel-lt = o .channel-lt; some = o .some; most = o .most } in
+      let more : length (acc ++ x ∷ []) ≡ length acc + 1 = length-append acc (x ∷ []) in
+      let fits-S : Good S x = subst (λ (z : ℕ). Good z x) (v .size) fits in
+      record {
+        rule = rule;
+        eight = eight;
+        size = v .size;
+        lent = stored-length s (w .buffers) x (v .eight) (o .buffers) fits ∙ v .lent;
+        receives = v .receives;
+        receiver-size = v .receiver-size;
+        counts = omega arith;
+        follows = omega arith;
+        prefix = v .prefix ∙ sym (take-append-le (length (g .delivered)) acc (x ∷ []) (omega arith));
+        good = λ j h.
+            elim (decLt j (length acc)) [
+              | yes p ↦
+                  subst (Good S) (sym (List·getD-append acc (x ∷ []) noContent j p)) (v .good j p)
+              | no p ↦
+                  let y : length acc ≡ j = omega (arith, more, h) in
+                  subst (Good S)
+                  (sym (getD-append-seam acc x [] noContent) ∙ ap (λ (k : ℕ). getD (acc ++ x ∷ []) k noContent) y) fits-S
+            ];
+        holds-it = λ i h.
+            elim (decLt i (c .stored)) [
+              | yes p ↦
+                  let q : (g .released + i) % 8 ≡ slotOf c i = omega arith in
+                  let most = stored-slot s i (slots-rule s (v .rule)) p .most in
+                  stored-others s (w .buffers) x (v .eight) (o .buffers) fits ((g .released + i) % 8) (omega arith)
+                  (λ z. other-buffer (g .released) i (c .stored) p free (z ∙ ap (λ (k : ℕ). (k + c .stored) % 8) (u .oldest)))
+                  (rw q most)
+                  ∙ v .holds-it i p
+                  ∙ sym (List·getD-append acc (x ∷ []) noContent (g .released + i) (omega arith))
+              | no p ↦
+                  let last : i ≡ c .stored = omega arith in
+                  let z : (g .released + i) % 8 ≡ freeSlot c = same-buffer (g .released) i (c .stored) last ∙ ap (λ (k : ℕ). (k + c .stored) % 8) (sym (u .oldest)) in
+                  let y : g .released + i ≡ length acc = omega arith in
+                  ap
+                  (holding (storedIn s (x .channel) (x .bad) (length (x .bytes)))
+                  (laid (w .buffers) (bufferAt s (freeSlot c)) (x .bytes)))
+                  z
+                  ∙ stored-holds s (w .buffers) x (v .eight) (o .buffers) fits
+                  ∙ sym (getD-append-seam acc x [] noContent)
+                  ∙ ap (λ (k : ℕ). getD (acc ++ x ∷ []) k noContent) (sym y)
+            ];
+        items = weaken (λ a j h t. grown acc x a j (omega arith) t) (omega arith) (omega arith) (v .items);
+        replies = v .replies;
+      }
+
+  pub offer-inv : (x : Content) → Inv S (offered ours w x (ours .offer (w .sender) (w .buffers) x))
+  unfolding offerOf
+  offer-inv x =
+      offer-either (w .sender) (w .buffers) x
+      (λ (a : Offering Sender). senderRule (a .state) ≡ true → Eight (a .state) → Inv S (offered ours w x a))
+      (λ o rule eight. taken-inv x o rule eight) (λ _ _ _. v)
+      (offer-kept (w .sender) (length (w .buffers)) (x .channel) (x .bad) (length (x .bytes)) (v .eight) (v .rule))
+      (offer-eight (w .sender) (length (w .buffers)) (x .channel) (x .bad) (length (x .bytes)) (v .eight))
+
+  -- what is seen to have gone out once the segment at the send point goes
+  pub gone-is :
+      toSend (w .sender .counters) ≡ true
+      → goneWith (w .seen) (sendPoint (w .sender .counters)) ≡ w .seen .released + oneSent (w .sender .counters) .outstanding
+  unfolding goneWith
+  gone-is t =
+      let c = w .sender .counters in
+      let g = w .seen in
+      let n = numbers (w .sender) (v .rule) .numbers in
+      let u = v .counts in
+      let lt = ltb-true (c .point) (c .stored) t in
+      let few : c .outstanding ≤ 8 = omega arith in
+      let more = ltb (g .gone) (length (g .accepted)) in
+      by-test (ltb (c .point) (c .outstanding))
+      (λ p.
+      let again = ltb-true (c .point) (c .outstanding) p in
+      let no = ne-eqb (sendPoint c) (g .gone % 16) (λ q. other-number (g .released) (c .point) (c .outstanding) again few
+      (ap (λ (k : ℕ). (k + c .point) % 16) (sym (u .oldest)) ∙ q ∙ ap (λ (k : ℕ). k % 16) (u .outstanding))) in
+      cond-false (more && eqb (sendPoint c) (g .gone % 16)) (g .gone + 1) (g .gone) (and-false more (eqb (sendPoint c) (g .gone % 16)) no) ∙ omega arith)
+      (λ p.
+      let next = ltb-false (c .point) (c .outstanding) p in
+      let at : c .point ≡ c .outstanding = omega arith in
+      let yes = eq-eqb (sendPoint c) (g .gone % 16) (ap (λ (k : ℕ). (k + c .point) % 16) (u .oldest) ∙ same-number (g .released) (c .point) ∙ ap (λ (k : ℕ). (g .released + k) % 16) at ∙ ap (λ (k : ℕ). k % 16) (sym (u .outstanding))) in
+      cond-true (more && eqb (sendPoint c) (g .gone % 16)) (g .gone + 1) (g .gone)
+      (both-true more (eqb (sendPoint c) (g .gone % 16)) (lt-ltb (g .gone) (length (g .accepted)) (omega arith)) yes)
+      ∙ omega arith)
+    where
+      and-false : (a b : Bool) → b ≡ false → a && b ≡ false
+      and-false true b q = q
+      and-false false b q = refl
+
+  -- the segment at the send point is one that was accepted
+  pub due-is :
+      w .sender .counters .point < w .sender .counters .stored
+      → holding (w .sender) (w .buffers) (dueSlot (w .sender .counters))
+      ≡ getD (w .seen .accepted) (w .seen .released + w .sender .counters .point) noContent
+  due-is h =
+      let c = w .sender .counters in
+      let u = v .counts in
+      let q : dueSlot c ≡ (w .seen .released + c .point) % 8 = ap (λ (k : ℕ). (k + c .point) % 8) (u .oldest) ∙ sym (same-buffer (w .seen .released) (c .point) (c .point) refl) in
+      ap (holding (w .sender) (w .buffers)) q ∙ v .holds-it (c .point) h
+
+  goes-inv :
+      toSend (w .sender .counters) ≡ true → senderRule (goes (w .sender) (w .buffers) .state) ≡ true
+      → Inv S (sent ours w (goes (w .sender) (w .buffers)))
+  unfolding heldBytes
+  goes-inv t rule =
+      let c = w .sender .counters in
+      let g = w .seen in
+      let n = numbers (w .sender) (v .rule) .numbers in
+      let u = v .counts in
+      let f = v .follows in
+      let lt = ltb-true (c .point) (c .stored) t in
+      let gone = gone-is t in
+      record {
+        rule = rule;
+        eight = record { lengths = v .eight .lengths; channels = v .eight .channels; bad = v .eight .bad };
+        size = v .size;
+        lent = v .lent;
+        receives = v .receives;
+        receiver-size = v .receiver-size;
+        counts = omega arith;
+        follows = omega arith;
+        prefix = v .prefix;
+        good = v .good;
+        holds-it = v .holds-it;
+        items =
+            snoc (segment (sendPoint c) (holding (w .sender) (w .buffers) (dueSlot c))) (g .released + c .point)
+            (ap (λ (k : ℕ). (k + c .point) % 16) (u .oldest) ∙ same-number (g .released) (c .point), due-is lt)
+            (omega arith) (omega arith) (omega arith) (lower (omega arith) (omega arith) (v .items));
+        replies = v .replies;
+      }
+
+  pub send-inv : (output : List ℕ) → Inv S (sent ours w (ours .send (w .sender) (w .buffers) output))
+  send-inv output =
+      send-either (w .sender) (w .buffers) output (λ (a : Sending Sender). senderRule (a .state) ≡ true → Inv S (sent ours w a))
+      (λ _ t rule. goes-inv t rule) (λ _ _. v)
+      (send-kept (w .sender) (length (w .buffers)) (length output) (v .rule))
