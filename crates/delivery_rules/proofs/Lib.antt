@@ -8,3 +8,5 @@ pub mod Invariant
 pub mod Seeing
 pub mod SenderSteps
 pub mod ReplySteps
+pub mod ArrivalSteps
+pub mod Safety

@@ -1,3 +1,4 @@
 pub mod Model
 pub mod Demand
 pub mod Ours
+pub mod Honest
