@@ -68,6 +68,21 @@ tick-accepted g =
     same-accepted (isRunning g) g _
     (same-accepted (eqb (g .ticks + 1) (g .columns)) more (seenWith g (g .gone) (g .released) 0 (g .expiries + 1)) refl)
 
+-- a reply counts none
+reply-expiries : (g : Seen) (y : Reply) → seenReply g y .expiries ≤ g .expiries
+unfolding seenReply
+reply-expiries g (ack k) = fewer (isRunning g && eqb k (g .released % 16)) (seenWith g (g .gone) (g .released + 1) 0 0) (omega arith)
+  where
+    fewer : (b : Bool) (h : Seen) → h .expiries ≤ g .expiries → cond b h g .expiries ≤ g .expiries
+    fewer true h q = q
+    fewer false h q = omega arith
+reply-expiries g (nack k) = fewer (isRunning g && eqb k (g .released % 16)) (seenWith g (g .gone) (g .released) 0 0) (omega arith)
+  where
+    fewer : (b : Bool) (h : Seen) → h .expiries ≤ g .expiries → cond b h g .expiries ≤ g .expiries
+    fewer true h q = q
+    fewer false h q = omega arith
+reply-expiries g damaged-reply = omega arith
+
 module _ (E : Ends) where
   hears-accepted : (w : World E) (l : List Reply) → hears E w l .seen .accepted ≡ w .seen .accepted
   hears-accepted w [] = refl
@@ -121,6 +136,47 @@ module _ (E : Ends) where
   sends-accepted (damage n ∷ es) j w c = absurd c
   sends-accepted (lose-reply n ∷ es) j w c = absurd c
   sends-accepted (damage-reply n ∷ es) j w c = absurd c
+
+  -- no more are sent than were accepted
+  pub sends-le : (es : List Event) (j : ℕ) (w : World E) → SendsEach E j es w → j ≤ length (w .seen .accepted)
+  unfolding step SendsEach
+  sends-le [] j w c = omega (arith, c .0)
+  sends-le (send output ∷ es) j w c = omega (arith, sends-le es (suc j) (step E (send output) w) (c .1))
+  sends-le (arrive room output ∷ es) j w c =
+      omega (arith, sends-le es j (step E (arrive room output) w) (c .2), ap length (arrives-accepted w room output (w .forward)))
+  sends-le (hear ∷ es) j w c = omega (arith, sends-le es j (step E hear w) c, ap length (hears-accepted w (w .backward)))
+  sends-le (tick ∷ es) j w c = omega (arith, sends-le es j (step E tick w) (c .1), ap length (tick-accepted (w .seen)))
+  sends-le (offer x ∷ es) j w c = absurd c
+  sends-le (lose n ∷ es) j w c = absurd c
+  sends-le (damage n ∷ es) j w c = absurd c
+  sends-le (lose-reply n ∷ es) j w c = absurd c
+  sends-le (damage-reply n ∷ es) j w c = absurd c
+
+  -- emptying the lines counts no expiry
+  hears-expiries : (w : World E) (l : List Reply) → hears E w l .seen .expiries ≤ w .seen .expiries
+  hears-expiries w [] = omega arith
+  hears-expiries w (y ∷ l) = reply-expiries (w .seen) y
+
+  arrives-expiries : (w : World E) (room : Bool) (output : List ℕ) (l : List Item) → arrives E w room output l .seen .expiries ≤ w .seen .expiries
+  arrives-expiries w room output [] = omega arith
+  arrives-expiries w room output (i ∷ l) = omega arith
+
+  calm-expiry : (e : Event) (w : World E) → Calm E e w → step E e w .seen .expiries ≤ w .seen .expiries
+  unfolding step
+  calm-expiry (offer x) w c = absurd c
+  calm-expiry (send output) w c = omega arith
+  calm-expiry (arrive room output) w c = arrives-expiries w room output (w .forward)
+  calm-expiry (lose n) w c = omega arith
+  calm-expiry (damage n) w c = omega arith
+  calm-expiry hear w c = hears-expiries w (w .backward)
+  calm-expiry (lose-reply n) w c = omega arith
+  calm-expiry (damage-reply n) w c = omega arith
+  calm-expiry tick w c = omega (arith, c)
+
+  pub calm-expiries : (es : List Event) (w : World E) → AllCalm E es w → run E es w .seen .expiries ≤ w .seen .expiries
+  unfolding run AllCalm
+  calm-expiries [] w c = omega arith
+  calm-expiries (e ∷ es) w c = omega (arith, calm-expiries es (step E e w) (c .1), calm-expiry e w (c .0))
 
   -- a run that empties both lines: each of the one line arrives, then each of the other
   record Emptied (w : World E) : Type 0 where

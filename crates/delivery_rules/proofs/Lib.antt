@@ -6,7 +6,12 @@ pub mod Buffers
 pub mod Calls
 pub mod Invariant
 pub mod Seeing
+pub mod Ticks
+pub mod Sequence
 pub mod SenderSteps
 pub mod ReplySteps
 pub mod ArrivalSteps
 pub mod Safety
+pub mod Recovery
+pub mod Expiry
+pub mod Theorem

@@ -15,7 +15,7 @@ use Rattle.retry_rules.specs.States.{senderRule}
 use Rattle.retry_rules.specs.Numbers.{amongLast}
 use Rattle.retry_rules.specs.Lent.{heldBytes}
 use Rattle.retry_rules.specs.Reply.{toOldest, restarted, oneReleased, acked, nacked, heard, withCounters}
-use Rattle.retry_rules.specs.Tick.{expired, fallen, ticked, tickOf}
+use Rattle.retry_rules.specs.Tick.{tickOf}
 use Rattle.retry_rules.proofs.Seen.{Sound, Hears}
 use Rattle.retry_rules.proofs.Kept.{reply-kept, tick-kept}
 use Rattle.delivery_rules.specs.Model.{Content, Item, Reply, ack, nack, damaged-reply, Seen, seenWith, seenReply, seenTick, World, told, hears}
@@ -23,8 +23,9 @@ use Rattle.delivery_rules.specs.Demand.{noContent}
 use Rattle.delivery_rules.specs.Ours.{hearing, ours}
 use Rattle.delivery_rules.proofs.Round.{near-is}
 use Rattle.delivery_rules.proofs.Lines.{Line, lower, tail, First, first}
-use Rattle.delivery_rules.proofs.Seeing.{stands, is-down, unheard, unticked, other-ack, other-nack, own-ack, own-nack, plain-tick, expiry}
-use Rattle.delivery_rules.proofs.Calls.{ack-heard, nack-heard, damaged-heard, ticks, down-reply, down-tick}
+use Rattle.delivery_rules.proofs.Seeing.{stands, is-down, unheard, unticked, other-ack, other-nack, own-ack, own-nack}
+use Rattle.delivery_rules.proofs.Calls.{ack-heard, nack-heard, damaged-heard, down-reply, down-tick}
+use Rattle.delivery_rules.proofs.Ticks.{tick-either}
 use Rattle.delivery_rules.proofs.Invariant.{IsAck, IsIdle, Inv, numbers, up, down, retimed, retimed-inv}
 
 module _ (S : ℕ) (w : World ours) (v : Inv S w) where
@@ -159,35 +160,21 @@ module _ (S : ℕ) (w : World ours) (v : Inv S w) where
 
   -- ticks
   ticked-inv : w .seen .expiries < 3 → Inv S (told ours w (tickOf (w .sender) .sender) (w .backward) (seenTick (w .seen)))
-  unfolding ticked
   ticked-inv h =
-      let s = w .sender in
-      let c = s .counters in
+      let c = w .sender .counters in
       let g = w .seen in
-      let n = numbers s (v .rule) .numbers in
+      let n = numbers (w .sender) (v .rule) .numbers in
       let u = v .counts in
-      let sound = up S w v h in
-      let P : Counters → Type 0 = λ d. senderRule (withCounters s d) ≡ true → Inv S (told ours w (withCounters s d) (w .backward) (seenTick g)) in
-      let all : P (ticked c) =
-      by-cases P (eqb (c .outstanding) 0)
-      (λ t _.
-      let z = eqb-true (c .outstanding) 0 t in
-      rw (unticked g (stands g (omega arith))) (same-inv (w .backward) (v .replies)))
-      (λ t.
-      let z = eqb-false (c .outstanding) 0 t in
-      by-cases P (eqb (c .timer) 1)
-      (λ e.
-      let last = eqb-true (c .timer) 1 e in
-      let is = expiry g h (omega arith) (omega arith) in
-      by-cases P (ltb (c .expiries) 2)
-      (λ _ rule. rw is (retimed-inv S w v 0 (c .columns) (c .expiries + 1) (c .link) 0 (g .expiries + 1) (w .backward) (omega arith) (omega arith) (v .replies) rule))
-      (λ _ rule. rw is
-      (retimed-inv S w v (c .point) (c .columns) (c .expiries + 1) 2 0 (g .expiries + 1) (w .backward) (omega arith) (omega arith) (v .replies) rule)))
-      (λ e rule.
-      let more = eqb-false (c .timer) 1 e in
-      rw (plain-tick g h (omega arith) (λ q. omega arith))
-      (retimed-inv S w v (c .point) (c .timer - 1) (c .expiries) (c .link) (g .ticks + 1) (g .expiries) (w .backward) (omega arith) (u .expiries) (v .replies) rule))) in
-      rw (ticks s sound) (all (subst (λ (d : Sender). senderRule d ≡ true) (ticks s sound) (tick-kept s (v .rule))))
+      let P : Sender → Seen → Type 0 = λ s g. senderRule s ≡ true → Inv S (told ours w s (w .backward) g) in
+      let expires : (point link : ℕ) (rule : senderRule (retimed S w v point (c .columns) (c .expiries + 1) link) ≡ true)
+      → Inv S
+      (told ours w (retimed S w v point (c .columns) (c .expiries + 1) link) (w .backward)
+      (seenWith g (g .gone) (g .released) 0 (g .expiries + 1))) = λ point link rule.
+      retimed-inv S w v point (c .columns) (c .expiries + 1) link 0 (g .expiries + 1) (w .backward) (omega arith) (omega arith) (v .replies) rule in
+      tick-either S w v h P (λ _ _. v)
+      (λ _ _ rule. retimed-inv S w v (c .point) (c .timer - 1) (c .expiries) (c .link) (g .ticks + 1) (g .expiries) (w .backward) (omega arith)
+      (u .expiries) (v .replies) rule)
+      (λ _ _ _ rule. expires 0 (c .link) rule) (λ _ _ _ rule. expires (c .point) 2 rule) (tick-kept (w .sender) (v .rule))
 
   pub tick-inv : Inv S (told ours w (tickOf (w .sender) .sender) (w .backward) (seenTick (w .seen)))
   tick-inv =

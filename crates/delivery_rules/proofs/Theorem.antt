@@ -1,0 +1,75 @@
+-- Demand 3 of our two ends.
+-- Assumes nothing.
+use mathlib.Core.Path.{_≡_, refl, sym, _∙_, ap, subst}
+use mathlib.Core.Bool.{Bool, true, false}
+use mathlib.Core.List.{List, [], _∷_, _++_, map, append-assoc, append-nil}
+use Prim.Native.Nat.{ℕ, zero, suc, _+_, _-_, _*_, _≤_, _<_}
+use native.Mathlib.Omega.{arith}
+use lib.ListN.{length, take}
+use lib.Seq.{take-all}
+use Rattle.retry_rules.specs.declared.Sender.{Sender}
+use Rattle.retry_rules.proofs.Seen.{Offers}
+use Rattle.delivery_rules.specs.Model.{Content, Offering, Event, offer, stored, World, offered, step, run}
+use Rattle.delivery_rules.specs.Demand.{Good, AllGood, Moment, at, Drill, drilled, expireOnce, Recovered, Delivers}
+use Rattle.delivery_rules.specs.Ours.{ours}
+use Rattle.delivery_rules.proofs.Calls.{offer-either}
+use Rattle.delivery_rules.proofs.Invariant.{Inv, up}
+use Rattle.delivery_rules.proofs.Safety.{sender-begins, receiver-begins, step-inv, run-inv, moment-inv, first-so-many}
+use Rattle.delivery_rules.proofs.Drills.{calm-run, calm-expiries, expiry-accepted, sends-accepted, can-drill}
+use Rattle.delivery_rules.proofs.Recovery.{Finished, sent-each}
+use Rattle.delivery_rules.proofs.Expiry.{expires-once}
+
+-- good offers are accepted while fewer than eight are stored
+accepts :
+    (S : ℕ) (xs : List Content) (w : World ours) → Inv S w → w .seen .expiries ≤ 2 → w .sender .counters .stored + length xs ≤ 8 → AllGood S xs
+    → run ours (map offer xs) w .seen .accepted ≡ w .seen .accepted ++ xs
+unfolding run step
+accepts S [] w v x h g = sym (append-nil (w .seen .accepted))
+accepts S (y ∷ xs) w v x h g =
+    let c = w .sender .counters in
+    let good = g .0 in
+    let most : length (y .bytes) ≤ c .size = omega (arith, good .most, v .size) in
+    let lent : length (w .buffers) ≡ 8 * c .size = omega (arith, v .lent, v .size) in
+    offer-either (w .sender) (w .buffers) y
+    (λ (a : Offering Sender). Inv S (offered ours w y a) → run ours (map offer xs) (offered ours w y a) .seen .accepted ≡ w .seen .accepted ++ y ∷ xs)
+    (λ _ inv. accepts S xs _ inv x (omega arith) (g .1) ∙ append-assoc (w .seen .accepted) (y ∷ []) xs)
+    (λ no. absurd
+    (no
+    (record {
+      sound = up S w v (omega arith);
+      buffers = lent;
+      channel-lt = good .channel-lt;
+      most = most;
+      some = good .some;
+      free = omega arith;
+    })))
+    (step-inv S (offer y) w v)
+
+recovered :
+    (S : ℕ) (before after : World ours) → Finished S after → after .seen .accepted ≡ before .seen .accepted → Recovered ours S before after
+recovered S before after f same =
+    let v = f .inv in
+    let u = v .counts in
+    record {
+      all = v .prefix ∙ take-all (length (after .seen .delivered)) (after .seen .accepted) (f .all-delivered) ∙ same;
+      none-stored = omega (arith, f .all-released);
+      eight-free = λ xs eight good. accepts S xs after v (f .few) (omega (arith, f .all-released)) good;
+    }
+
+drill-recovers : (S : ℕ) (w : World ours) → Inv S w → w .seen .expiries < 2 → (d : Drill ours w) → Recovered ours S w (drilled ours w d)
+drill-recovers S w v x d =
+    let emptied = run ours (d .emptying) w in
+    let few : emptied .seen .expiries < 2 = omega (arith, calm-expiries ours (d .emptying) w (d .calm)) in
+    let r = expires-once S emptied (run-inv S (d .emptying) w v) (d .empty) few in
+    let ready = expireOnce ours emptied in
+    recovered S w (drilled ours w d) (sent-each S (d .sending) (ready .seen .released) ready (d .each) r)
+    (sends-accepted ours (d .sending) (ready .seen .released) ready (d .each) ∙ expiry-accepted ours emptied ∙ calm-run ours (d .emptying) w (d .calm))
+
+pub delivers : Delivers ours
+delivers =
+    record {
+      begins = λ T S lent a. (sender-begins T S lent a, receiver-begins T S lent a);
+      safe = λ m _. first-so-many m;
+      recovers = λ m _ x d. drill-recovers (m .S) (at ours m) (moment-inv m) x d;
+      can-drill = λ m _ _. can-drill ours m;
+    }
