@@ -45,48 +45,14 @@ use Rattle.delivery_rules.specs.Model.{
   step,
   run,
 }
+use Rattle.delivery_rules.proofs.Seeing.{reply-lists, tick-lists, reply-expiries}
 use Rattle.delivery_rules.proofs.Ordered.{Ordered, run-ordered, moment-ordered}
 use Rattle.delivery_rules.specs.Demand.{noContent, Moment, at, Empty, Calm, AllCalm, expireOnce, Fits, SendsEach, Drill}
-
--- hearing and ticking leave what was accepted
-same-accepted : (b : Bool) (g h : Seen) → h .accepted ≡ g .accepted → cond b h g .accepted ≡ g .accepted
-same-accepted true g h q = q
-same-accepted false g h q = refl
-
-reply-accepted : (g : Seen) (y : Reply) → seenReply g y .accepted ≡ g .accepted
-unfolding seenReply
-reply-accepted g (ack k) =
-    same-accepted (isRunning g && eqb k (g .released % 16)) g (seenWith g (g .gone) (g .released + 1) 0 0) refl
-reply-accepted g (nack k) =
-    same-accepted (isRunning g && eqb k (g .released % 16)) g (seenWith g (g .gone) (g .released) 0 0) refl
-reply-accepted g damaged-reply = refl
-
-tick-accepted : (g : Seen) → seenTick g .accepted ≡ g .accepted
-unfolding seenTick
-tick-accepted g =
-    let more = seenWith g (g .gone) (g .released) (g .ticks + 1) (g .expiries) in
-    same-accepted (isRunning g) g _
-    (same-accepted (eqb (g .ticks + 1) (g .columns)) more (seenWith g (g .gone) (g .released) 0 (g .expiries + 1)) refl)
-
--- a reply counts none
-reply-expiries : (g : Seen) (y : Reply) → seenReply g y .expiries ≤ g .expiries
-unfolding seenReply
-reply-expiries g (ack k) = fewer (isRunning g && eqb k (g .released % 16)) (seenWith g (g .gone) (g .released + 1) 0 0) (omega arith)
-  where
-    fewer : (b : Bool) (h : Seen) → h .expiries ≤ g .expiries → cond b h g .expiries ≤ g .expiries
-    fewer true h q = q
-    fewer false h q = omega arith
-reply-expiries g (nack k) = fewer (isRunning g && eqb k (g .released % 16)) (seenWith g (g .gone) (g .released) 0 0) (omega arith)
-  where
-    fewer : (b : Bool) (h : Seen) → h .expiries ≤ g .expiries → cond b h g .expiries ≤ g .expiries
-    fewer true h q = q
-    fewer false h q = omega arith
-reply-expiries g damaged-reply = omega arith
 
 module _ (E : Ends) where
   hears-accepted : (w : World E) (l : List Reply) → hears E w l .seen .accepted ≡ w .seen .accepted
   hears-accepted w [] = refl
-  hears-accepted w (y ∷ l) = reply-accepted (w .seen) y
+  hears-accepted w (y ∷ l) = reply-lists (w .seen) y .accepted
 
   arrives-accepted : (w : World E) (room : Bool) (output : List ℕ) (l : List Item) → arrives E w room output l .seen .accepted ≡ w .seen .accepted
   arrives-accepted w room output [] = refl
@@ -102,7 +68,7 @@ module _ (E : Ends) where
   calm-step hear w c = hears-accepted w (w .backward)
   calm-step (lose-reply n) w c = refl
   calm-step (damage-reply n) w c = refl
-  calm-step tick w c = tick-accepted (w .seen)
+  calm-step tick w c = tick-lists (w .seen) .accepted
 
   -- emptying the lines offers nothing, nor does the expiry, nor the sending
   pub calm-run : (es : List Event) (w : World E) → AllCalm E es w → run E es w .seen .accepted ≡ w .seen .accepted
@@ -113,7 +79,7 @@ module _ (E : Ends) where
   ticks-run : (n : ℕ) (w : World E) → run E (replicate n tick) w .seen .accepted ≡ w .seen .accepted
   unfolding run step
   ticks-run zero w = refl
-  ticks-run (suc n) w = ticks-run n (step E tick w) ∙ tick-accepted (w .seen)
+  ticks-run (suc n) w = ticks-run n (step E tick w) ∙ tick-lists (w .seen) .accepted
 
   pub expiry-accepted : (w : World E) → expireOnce E w .seen .accepted ≡ w .seen .accepted
   unfolding expireOnce
@@ -130,7 +96,7 @@ module _ (E : Ends) where
   sends-accepted (arrive room output ∷ es) j w c =
       sends-accepted es j (step E (arrive room output) w) (c .2) ∙ arrives-accepted w room output (w .forward)
   sends-accepted (hear ∷ es) j w c = sends-accepted es j (step E hear w) c ∙ hears-accepted w (w .backward)
-  sends-accepted (tick ∷ es) j w c = sends-accepted es j (step E tick w) (c .1) ∙ tick-accepted (w .seen)
+  sends-accepted (tick ∷ es) j w c = sends-accepted es j (step E tick w) (c .1) ∙ tick-lists (w .seen) .accepted
   sends-accepted (offer x ∷ es) j w c = absurd c
   sends-accepted (lose n ∷ es) j w c = absurd c
   sends-accepted (damage n ∷ es) j w c = absurd c
@@ -145,7 +111,7 @@ module _ (E : Ends) where
   sends-le (arrive room output ∷ es) j w c =
       omega (arith, sends-le es j (step E (arrive room output) w) (c .2), ap length (arrives-accepted w room output (w .forward)))
   sends-le (hear ∷ es) j w c = omega (arith, sends-le es j (step E hear w) c, ap length (hears-accepted w (w .backward)))
-  sends-le (tick ∷ es) j w c = omega (arith, sends-le es j (step E tick w) (c .1), ap length (tick-accepted (w .seen)))
+  sends-le (tick ∷ es) j w c = omega (arith, sends-le es j (step E tick w) (c .1), ap length (tick-lists (w .seen) .accepted))
   sends-le (offer x ∷ es) j w c = absurd c
   sends-le (lose n ∷ es) j w c = absurd c
   sends-le (damage n ∷ es) j w c = absurd c

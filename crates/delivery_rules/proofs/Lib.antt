@@ -1,11 +1,11 @@
 pub mod Ordered
+pub mod Seeing
 pub mod Drills
 pub mod Round
 pub mod Lines
 pub mod Buffers
 pub mod Calls
 pub mod Invariant
-pub mod Seeing
 pub mod Ticks
 pub mod Sequence
 pub mod SenderSteps

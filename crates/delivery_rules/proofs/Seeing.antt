@@ -6,7 +6,7 @@ use Prim.Native.Nat.{ℕ, _+_, _-_, _%_, _≤_, _<_}
 use native.Mathlib.Omega.{arith}
 use lib.Dec.{ltb, eqb}
 use borrow.Author.Tests.{lt-ltb, le-ltb, eq-eqb, ne-eqb}
-use Rattle.laws.proofs.Cases.{both-true, cond-true, cond-false, false-is-not-true}
+use Rattle.laws.proofs.Cases.{by-cases, both-true, cond-true, cond-false, false-is-not-true}
 use Rattle.delivery_rules.specs.Model.{Reply, ack, nack, damaged-reply, Seen, isUp, outstanding, isRunning, seenWith, seenReply, seenTick}
 
 pub not-first : (a b : Bool) → a ≡ false → a && b ≡ false
@@ -16,6 +16,42 @@ not-first false b q = refl
 pub not-second : (a b : Bool) → b ≡ false → a && b ≡ false
 not-second true b q = q
 not-second false b q = refl
+
+-- a reply and a tick leave both lists, and a reply counts no expiry
+pub record Quiet (g h : Seen) : Type 0 where
+  pub accepted : h .accepted ≡ g .accepted
+  pub delivered : h .delivered ≡ g .delivered
+
+pub reply-lists : (g : Seen) (y : Reply) → Quiet g (seenReply g y)
+unfolding seenReply
+reply-lists g (ack k) =
+    by-cases (Quiet g) (isRunning g && eqb k (g .released % 16)) (λ _. record { accepted = refl; delivered = refl })
+    (λ _. record { accepted = refl; delivered = refl })
+reply-lists g (nack k) =
+    by-cases (Quiet g) (isRunning g && eqb k (g .released % 16)) (λ _. record { accepted = refl; delivered = refl })
+    (λ _. record { accepted = refl; delivered = refl })
+reply-lists g damaged-reply = record { accepted = refl; delivered = refl }
+
+pub tick-lists : (g : Seen) → Quiet g (seenTick g)
+unfolding seenTick
+tick-lists g =
+    by-cases (Quiet g) (isRunning g)
+    (λ _. by-cases (Quiet g) (eqb (g .ticks + 1) (g .columns)) (λ _. record { accepted = refl; delivered = refl })
+    (λ _. record { accepted = refl; delivered = refl }))
+    (λ _. record { accepted = refl; delivered = refl })
+
+record NoMore (g h : Seen) : Type 0 where
+  expiries : h .expiries ≤ g .expiries
+
+pub reply-expiries : (g : Seen) (y : Reply) → seenReply g y .expiries ≤ g .expiries
+unfolding seenReply
+reply-expiries g (ack k) =
+    by-cases (NoMore g) (isRunning g && eqb k (g .released % 16)) {x = seenWith g (g .gone) (g .released + 1) 0 0} {y = g}
+    (λ _. record { expiries = omega arith }) (λ _. record { expiries = omega arith }) .expiries
+reply-expiries g (nack k) =
+    by-cases (NoMore g) (isRunning g && eqb k (g .released % 16)) {x = seenWith g (g .gone) (g .released) 0 0} {y = g}
+    (λ _. record { expiries = omega arith }) (λ _. record { expiries = omega arith }) .expiries
+reply-expiries g damaged-reply = omega arith
 
 module _ (g : Seen) where
   runs : g .expiries < 3 → g .released < g .gone → isRunning g ≡ true
