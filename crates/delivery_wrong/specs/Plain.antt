@@ -1,0 +1,169 @@
+-- Ends in plain numbers, which go round only on the line: the rules of document 01 once more, with three choices left open.
+-- With eight, eight and `true` they are the rules; each wrong end is one other choice.
+use Prim.Native.Nat.{ℕ, _+_, _-_, _%_, min, max}
+use mathlib.Core.Bool.{Bool, true, false, cond}
+use mathlib.Core.List.{List, []}
+use lib.Dec.{ltb, eqb}
+use lib.ListN.{getD, set, replicate}
+use Rattle.retry_rules.specs.Numbers.{amongLast}
+use Rattle.delivery_rules.specs.Model.{Content, Item, segment, damaged, Reply, ack, nack, damaged-reply, Offering, Sending, Arriving, Ends}
+use Rattle.delivery_rules.specs.Demand.{noContent}
+
+pub record Choice : Type 0 where
+  -- how many segments may be stored, and in how many buffers
+  pub window : ℕ
+  pub buffers : ℕ
+  -- a send point left behind by an ACK moves up
+  pub moves-up : Bool
+
+pub record PlainSender : Type 0 where
+  pub columns : ℕ
+  -- how many were released, and how many have gone out; the send point is the place of the next to go
+  pub released : ℕ
+  pub gone : ℕ
+  pub stored : ℕ
+  pub point : ℕ
+  pub ticks : ℕ
+  pub expiries : ℕ
+  pub held : List Content
+
+pub record PlainReceiver : Type 0 where
+  pub taken : ℕ
+
+abbrev pub moved : PlainSender → ℕ → ℕ → ℕ → PlainSender
+moved s point ticks expiries =
+    record {
+      columns = s .columns;
+      released = s .released;
+      gone = s .gone;
+      stored = s .stored;
+      point = point;
+      ticks = ticks;
+      expiries = expiries;
+      held = s .held;
+    }
+
+module _ (c : Choice) where
+  unfoldable pub plainOffer : PlainSender → List ℕ → Content → Offering PlainSender
+  plainOffer s lent x =
+      cond (ltb (s .stored) (c .window))
+      (record {
+        accepted = true;
+        buffers = lent;
+        state = record {
+          columns = s .columns;
+          released = s .released;
+          gone = s .gone;
+          stored = s .stored + 1;
+          point = s .point;
+          ticks = s .ticks;
+          expiries = s .expiries;
+          held = set (s .held) ((s .released + s .stored) % c .buffers) x;
+        };
+      })
+      (record { accepted = false; buffers = lent; state = s })
+
+  unfoldable pub plainSend : PlainSender → List ℕ → List ℕ → Sending PlainSender
+  plainSend s lent output =
+      cond (ltb (s .point) (s .released + s .stored))
+      (record {
+        sent = true;
+        number = s .point % 16;
+        content = getD (s .held) (s .point % c .buffers) noContent;
+        state = record {
+          columns = s .columns;
+          released = s .released;
+          gone = max (s .gone) (s .point + 1);
+          stored = s .stored;
+          point = s .point + 1;
+          ticks = s .ticks;
+          expiries = s .expiries;
+          held = s .held;
+        };
+      })
+      (record { sent = false; number = 0; content = noContent; state = s })
+
+  -- the oldest is released
+  abbrev pub plainRelease : PlainSender → PlainSender
+  plainRelease s =
+      record {
+        columns = s .columns;
+        released = s .released + 1;
+        gone = s .gone;
+        stored = s .stored - 1;
+        point = cond (c .moves-up) (max (s .point) (s .released + 1)) (s .point);
+        ticks = 0;
+        expiries = 0;
+        held = s .held;
+      }
+
+  unfoldable pub plainHear : PlainSender → Reply → PlainSender
+  plainHear s (ack k) =
+      cond (eqb (s .gone) (s .released)) s
+      (cond (eqb k (s .released % 16)) (plainRelease s)
+      (cond (amongLast (min (s .released) 8) (s .released % 16) k) s (moved s (s .released) (s .ticks) (s .expiries))))
+  plainHear s (nack k) =
+      cond (eqb (s .gone) (s .released)) s
+      (cond (eqb k (s .released % 16)) (moved s (s .released) 0 0) (moved s (s .released) (s .ticks) (s .expiries)))
+  plainHear s damaged-reply = s
+
+unfoldable pub plainTick : PlainSender → PlainSender
+plainTick s =
+    cond (eqb (s .gone) (s .released)) s
+    (cond (eqb (s .ticks + 1) (s .columns))
+    (moved s (cond (ltb (s .expiries) 2) (s .released) (s .point)) 0 (s .expiries + 1))
+    (moved s (s .point) (s .ticks + 1) (s .expiries)))
+
+abbrev pub replied : Reply → PlainReceiver → Arriving PlainReceiver
+replied y r = record { answered = true; reply = y; delivered = false; content = noContent; state = r }
+
+unfoldable pub plainArrive : PlainReceiver → Item → Bool → List ℕ → Arriving PlainReceiver
+plainArrive r (segment k x) room output =
+    cond (eqb k (r .taken % 16))
+    (cond room
+    (record { answered = true; reply = ack k; delivered = true; content = x; state = record { taken = r .taken + 1 } })
+    (replied (nack (r .taken % 16)) r))
+    (cond (amongLast (min (r .taken) 8) (r .taken % 16) k) (replied (ack k) r) (replied (nack (r .taken % 16)) r))
+plainArrive r damaged room output = replied (nack (r .taken % 16)) r
+
+abbrev pub plain : Choice → Ends
+plain c =
+    record {
+      Sender = PlainSender;
+      Receiver = PlainReceiver;
+      fresh-sender = λ T S. record {
+        refusal = 0;
+        state = record {
+          columns = T;
+          released = 0;
+          gone = 0;
+          stored = 0;
+          point = 0;
+          ticks = 0;
+          expiries = 0;
+          held = replicate (c .buffers) noContent;
+        };
+      };
+      fresh-receiver = λ S. record { refusal = 0; state = record { taken = 0 } };
+      offer = plainOffer c;
+      send = plainSend c;
+      hear = plainHear c;
+      tick = plainTick;
+      arrive = plainArrive;
+    }
+
+-- all sixteen numbers in use at once
+abbrev pub sixteen : Ends
+sixteen = plain (record { window = 16; buffers = 16; moves-up = true })
+
+-- a window of nine
+abbrev pub nine : Ends
+nine = plain (record { window = 9; buffers = 9; moves-up = true })
+
+-- a send point that stays behind the oldest after an ACK, and reads a freed buffer
+abbrev pub leftBehind : Ends
+leftBehind = plain (record { window = 8; buffers = 8; moves-up = false })
+
+-- a buffer used again before its segment is released
+abbrev pub usedAgain : Ends
+usedAgain = plain (record { window = 8; buffers = 7; moves-up = true })
