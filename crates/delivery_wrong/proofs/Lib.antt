@@ -1,5 +1,5 @@
 pub mod Never
-pub mod Checked
+pub mod ByRun
 pub mod FirstOnly
 pub mod Sixteen
 pub mod Windows

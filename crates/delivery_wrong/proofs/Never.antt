@@ -74,6 +74,7 @@ module _ (E : Ends) where
       where
         v : World E
         v = run E (d .emptying) w
+
         either : (b : Bool) → P (cond b v (run E (replicate (v .seen .columns - v .seen .ticks) tick) v))
         either true = along (d .emptying) w p
         either false = along (replicate (v .seen .columns - v .seen .ticks) tick) v (along (d .emptying) w p)

@@ -1,16 +1,14 @@
 -- Ends that use all sixteen numbers at once: a run without loss or damage in which segment 0 is delivered twice and segment 16 never.
 -- Assumes nothing.
-use mathlib.Core.Path.{_≡_, refl, sym, _∙_, ap}
-use mathlib.Core.Bool.{Bool, true, false}
+use mathlib.Core.Path.{_≡_, refl}
+use mathlib.Core.Bool.{Bool, true}
 use mathlib.Core.List.{List, [], _∷_, _++_, map}
 use Prim.Native.Nat.{ℕ}
-use native.Mathlib.Omega.{arith}
-use lib.ListN.{length, getD}
 use Rattle.retry_rules.specs.Numbers.{amongLast}
-use Rattle.delivery_rules.specs.Model.{Content, goneWith, seenReply, seenTick, stored, Event, offer, send, arrive, hear, tick, step, run}
-use Rattle.delivery_rules.specs.Demand.{noContent, Moment, at, Delivers}
+use Rattle.delivery_rules.specs.Model.{goneWith, seenReply, seenTick, stored, Event, offer, send, arrive, hear, tick, step, run}
+use Rattle.delivery_rules.specs.Demand.{Delivers}
 use Rattle.delivery_wrong.specs.Plain.{plainOffer, plainSend, plainHear, plainTick, plainArrive, sixteen}
-use Rattle.delivery_wrong.proofs.Checked.{nth, segments, times, lent, output, allowed}
+use Rattle.delivery_wrong.proofs.ByRun.{nth, segments, times, output, after, breaksSafety, unsafe}
 
 -- segments 0 to 15 are offered, sent and delivered; the timer expires and 0 is sent again; then the sixteen ACKs are heard.
 -- The second 0 arrives where 16 is expected, which has the same number. Segment 16 is offered and sent; it arrives as a repeated one
@@ -26,24 +24,18 @@ history =
     ∷ hear
     ∷ []
 
-pub moment : Moment sixteen
-moment = record { T = 1; S = 8; lent = lent; allowed = allowed; events = history }
-
 -- at its end all seventeen are acknowledged and both lines are empty: 0 was delivered twice, and 16 is lost
 pub record ZeroTwice : Type 0 where
-  pub accepted : at sixteen moment .seen .accepted ≡ segments 0 17
-  pub delivered : at sixteen moment .seen .delivered ≡ segments 0 16 ++ nth 0 ∷ []
-  pub none-stored : stored (at sixteen moment .seen) ≡ 0
-  pub lines : (at sixteen moment .forward ≡ []) × (at sixteen moment .backward ≡ [])
+  pub accepted : after sixteen history .seen .accepted ≡ segments 0 17
+  pub delivered : after sixteen history .seen .delivered ≡ segments 0 16 ++ nth 0 ∷ []
+  pub none-stored : stored (after sixteen history .seen) ≡ 0
+  pub lines : (after sixteen history .forward ≡ []) × (after sixteen history .backward ≡ [])
 
 pub zero-twice : ZeroTwice
-unfolding moment run step goneWith seenReply seenTick amongLast plainOffer plainSend plainHear plainTick plainArrive
+unfolding run step goneWith seenReply seenTick amongLast plainOffer plainSend plainHear plainTick plainArrive
 zero-twice = record { accepted = refl; delivered = refl; none-stored = refl; lines = (refl, refl) }
 
 -- the seventeenth delivered is not the seventeenth accepted
 pub sixteen-refused : Delivers sixteen → ⊥
-unfolding moment run step goneWith seenReply seenTick amongLast plainOffer plainSend plainHear plainTick plainArrive
-sixteen-refused d =
-    let same = d .safe moment refl in
-    let z : _≡_ {A = ℕ} 0 16 = ap (λ (l : List Content). getD (getD l 16 noContent .bytes) 0 0) same in
-    omega arith
+unfolding breaksSafety run step goneWith seenReply seenTick amongLast plainOffer plainSend plainHear plainTick plainArrive
+sixteen-refused = unsafe sixteen history 16 refl

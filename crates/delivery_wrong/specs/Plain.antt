@@ -152,13 +152,13 @@ plain c =
       arrive = plainArrive;
     }
 
+-- a window of nine or more
+abbrev pub wide : ℕ → Ends
+wide n = plain (record { window = n; buffers = n; moves-up = true })
+
 -- all sixteen numbers in use at once
 abbrev pub sixteen : Ends
-sixteen = plain (record { window = 16; buffers = 16; moves-up = true })
-
--- a window of nine
-abbrev pub nine : Ends
-nine = plain (record { window = 9; buffers = 9; moves-up = true })
+sixteen = wide 16
 
 -- a send point that stays behind the oldest after an ACK, and reads a freed buffer
 abbrev pub leftBehind : Ends
