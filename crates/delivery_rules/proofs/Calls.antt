@@ -20,7 +20,7 @@ use Rattle.retry_rules.specs.declared.Sent.{Sent}
 use Rattle.retry_rules.specs.declared.Ticked.{Ticked}
 use Rattle.retry_rules.specs.declared.Arrived.{Arrived}
 use Rattle.retry_rules.specs.Numbers.{amongLast}
-use Rattle.retry_rules.specs.States.{receiverRule}
+use Rattle.retry_rules.specs.States.{isDown, receiverRule}
 use Rattle.retry_rules.specs.Lent.{laid, bufferAt, heldLength, heldBytes}
 use Rattle.retry_rules.specs.Refused.{refusedSender, refusedOffer, refusedSend, refusedTick, refusedArrival}
 use Rattle.retry_rules.specs.Offer.{offerChecks, freeSlot, storedIn, offerOf, offerBuffers}
@@ -198,7 +198,23 @@ pub ticks : (s : Sender) → Sound s → tickOf s .sender ≡ withCounters s (ti
 unfolding tickOf
 ticks s h = ap (λ (a : Ticked). a .sender) (done (senderChecks s) (refusedTick s) _ (sender-passes s h))
 
+-- a tick says whether it took the link down
+pub tick-fell : (s : Sender) → Sound s → tickOf s .fell ≡ isDown (tickOf s .sender .counters)
+unfolding tickOf
+tick-fell s h =
+    let d = ticked (s .counters) in
+    let is : tickOf s ≡ record { refusal = 0; fell = isDown d; sender = withCounters s d } =
+    done (senderChecks s) (refusedTick s) _ (sender-passes s h) in
+    ap (λ (a : Ticked). a .fell) is ∙ sym (ap (λ (a : Ticked). isDown (a .sender .counters)) is)
+
 module _ (s : Sender) (down : s .counters .link ≡ 2) where
+  refused-tick : tickOf s ≡ refusedTick s (refusalOf (senderChecks s))
+  unfolding tickOf
+  refused-tick = refused (senderChecks s) (refusedTick s) _ (λ q. omega (arith, down, sender-seen s q .up))
+
+  pub down-fell : tickOf s .fell ≡ false
+  down-fell = ap (λ (a : Ticked). a .fell) refused-tick
+
   pub down-reply : (y : Reply) → hearing s y ≡ s
   unfolding hearing replyOf
   down-reply (ack k) =
@@ -210,7 +226,4 @@ module _ (s : Sender) (down : s .counters .link ≡ 2) where
   down-reply damaged-reply = damaged-heard s
 
   pub down-tick : tickOf s .sender ≡ s
-  unfolding tickOf
-  down-tick =
-      ap (λ (a : Ticked). a .sender)
-      (refused (senderChecks s) (refusedTick s) _ (λ q. omega (arith, down, sender-seen s q .up)))
+  down-tick = ap (λ (a : Ticked). a .sender) refused-tick

@@ -24,7 +24,8 @@ use Rattle.delivery_rules.specs.Model.{
   seenWith,
   seenReply,
   seenTick,
-  isRunning,
+  outstanding,
+  ticksLeft,
   Event,
   offer,
   send,
@@ -45,14 +46,14 @@ use Rattle.delivery_rules.specs.Model.{
   step,
   run,
 }
-use Rattle.delivery_rules.proofs.Seeing.{reply-lists, tick-lists, reply-expiries}
+use Rattle.delivery_rules.proofs.Seeing.{reply-heard, tick-lists}
 use Rattle.delivery_rules.proofs.Ordered.{Ordered, run-ordered, moment-ordered}
 use Rattle.delivery_rules.specs.Demand.{noContent, Moment, at, Empty, Calm, AllCalm, expireOnce, Fits, SendsEach, Drill}
 
 module _ (E : Ends) where
   hears-accepted : (w : World E) (l : List Reply) → hears E w l .seen .accepted ≡ w .seen .accepted
   hears-accepted w [] = refl
-  hears-accepted w (y ∷ l) = reply-lists (w .seen) y .accepted
+  hears-accepted w (y ∷ l) = reply-heard (w .seen) y .lists .accepted
 
   arrives-accepted : (w : World E) (room : Bool) (output : List ℕ) (l : List Item) → arrives E w room output l .seen .accepted ≡ w .seen .accepted
   arrives-accepted w room output [] = refl
@@ -81,13 +82,26 @@ module _ (E : Ends) where
   ticks-run zero w = refl
   ticks-run (suc n) w = ticks-run n (step E tick w) ∙ tick-lists (w .seen) .accepted
 
-  pub expiry-accepted : (w : World E) → expireOnce E w .seen .accepted ≡ w .seen .accepted
+  ticks-empty : (n : ℕ) (w : World E) → Empty E w → Empty E (run E (replicate n tick) w)
+  unfolding run step
+  ticks-empty zero w e = e
+  ticks-empty (suc n) w e = ticks-empty n (step E tick w) e
+
+  -- an expiry leaves what was accepted and the empty lines
+  pub record Expired (w v : World E) : Type 0 where
+    pub accepted : v .seen .accepted ≡ w .seen .accepted
+    empty : Empty E w → Empty E v
+    ordered : Ordered (w .seen) → Ordered (v .seen)
+
+  pub expired : (w : World E) → Expired w (expireOnce E w)
   unfolding expireOnce
-  expiry-accepted w = either (eqb (w .seen .gone - w .seen .released) 0)
-    where
-      either : (b : Bool) → cond b w (run E (replicate (w .seen .columns - w .seen .ticks) tick) w) .seen .accepted ≡ w .seen .accepted
-      either true = refl
-      either false = ticks-run (w .seen .columns - w .seen .ticks) w
+  expired w =
+      by-cases (Expired w) (eqb (outstanding (w .seen)) 0) (λ _. record { accepted = refl; empty = λ e. e; ordered = λ o. o })
+      (λ _. record {
+        accepted = ticks-run (ticksLeft (w .seen)) w;
+        empty = ticks-empty (ticksLeft (w .seen)) w;
+        ordered = run-ordered E (replicate (ticksLeft (w .seen)) tick) w;
+      })
 
   pub sends-accepted : (es : List Event) (j : ℕ) (w : World E) → SendsEach E j es w → run E es w .seen .accepted ≡ w .seen .accepted
   unfolding run step SendsEach
@@ -121,7 +135,7 @@ module _ (E : Ends) where
   -- emptying the lines counts no expiry
   hears-expiries : (w : World E) (l : List Reply) → hears E w l .seen .expiries ≤ w .seen .expiries
   hears-expiries w [] = omega arith
-  hears-expiries w (y ∷ l) = reply-expiries (w .seen) y
+  hears-expiries w (y ∷ l) = reply-heard (w .seen) y .expiries
 
   arrives-expiries : (w : World E) (room : Bool) (output : List ℕ) (l : List Item) → arrives E w room output l .seen .expiries ≤ w .seen .expiries
   arrives-expiries w room output [] = omega arith
@@ -243,28 +257,6 @@ module _ (E : Ends) where
         each = (omega arith, (refl, fits (after-send j w e .forward), r .each));
       }
 
-  -- an expiry leaves the lines empty
-  ticks-empty : (n : ℕ) (w : World E) → Empty E w → Empty E (run E (replicate n tick) w)
-  unfolding run step
-  ticks-empty zero w e = e
-  ticks-empty (suc n) w e = ticks-empty n (step E tick w) e
-
-  expiry-empty : (w : World E) → Empty E w → Empty E (expireOnce E w)
-  unfolding expireOnce
-  expiry-empty w e = either (eqb (w .seen .gone - w .seen .released) 0)
-    where
-      either : (b : Bool) → Empty E (cond b w (run E (replicate (w .seen .columns - w .seen .ticks) tick) w))
-      either true = e
-      either false = ticks-empty (w .seen .columns - w .seen .ticks) w e
-
-  expiry-ordered : (w : World E) → Ordered (w .seen) → Ordered (expireOnce E w .seen)
-  unfolding expireOnce
-  expiry-ordered w o = either (eqb (w .seen .gone - w .seen .released) 0)
-    where
-      either : (b : Bool) → Ordered (cond b w (run E (replicate (w .seen .columns - w .seen .ticks) tick) w) .seen)
-      either true = o
-      either false = run-ordered E (replicate (w .seen .columns - w .seen .ticks) tick) w o
-
   -- the drill can be carried out from every moment
   pub can-drill : (m : Moment E) → Drill E (at E m)
   can-drill m =
@@ -272,7 +264,7 @@ module _ (E : Ends) where
       let r = arrive-all (w .forward) w refl in
       let u = run E (r .events) w in
       let v = expireOnce E u in
-      let o = expiry-ordered u (run-ordered E (r .events) w (moment-ordered E m)) in
+      let o = expired u .ordered (run-ordered E (r .events) w (moment-ordered E m)) in
       let left : ℕ = length (v .seen .accepted) - v .seen .released in
-      let s = send-all left (v .seen .released) v (expiry-empty u (r .empty)) (omega arith) in
+      let s = send-all left (v .seen .released) v (expired u .empty (r .empty)) (omega arith) in
       record { emptying = r .events; calm = r .calm; empty = r .empty; sending = s .events; each = s .each }

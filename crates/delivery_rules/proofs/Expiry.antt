@@ -10,7 +10,7 @@ use lib.ListN.{length, replicate}
 use borrow.Author.Tests.{eqb-true, eqb-false}
 use Rattle.laws.proofs.Cases.{by-cases}
 use Rattle.retry_rules.specs.declared.Sender.{Sender}
-use Rattle.delivery_rules.specs.Model.{Item, Reply, Seen, outstanding, tick, World, told, step, run}
+use Rattle.delivery_rules.specs.Model.{Item, Reply, Seen, outstanding, ticksLeft, tick, World, told, step, run}
 use Rattle.delivery_rules.specs.Demand.{Empty, expireOnce}
 use Rattle.delivery_rules.specs.Ours.{ours}
 use Rattle.delivery_rules.proofs.Sequence.{Sequence, done}
@@ -41,6 +41,13 @@ expires S (suc n) w v e x o t =
     (λ none. absurd (omega arith)) (λ _ _ inv. expires S n _ inv e x o (omega arith)) (λ _ last. absurd (omega arith))
     (λ _ last. absurd (omega arith)) (step-inv S tick w v)
 
+-- so many ticks as are left, one at least
+expires-after :
+    (S k : ℕ) (w : World ours) → Inv S w → Empty ours w → w .seen .expiries < 2 → w .seen .released < w .seen .gone → 0 < k
+    → w .seen .columns - w .seen .ticks ≡ k → Ready S (run ours (replicate k tick) w)
+expires-after S zero w v e x o pos t = absurd (omega arith)
+expires-after S (suc n) w v e x o pos t = expires S n w v e x o t
+
 resending : (S : ℕ) (w : World ours) → Ready S w → Resending S (w .seen .released) w
 resending S w r =
     record {
@@ -67,5 +74,4 @@ expires-once S w v e x =
     resending S w (record { inv = v; few = omega arith; point = omega arith; empty = e }))
     (λ t.
     let some = eqb-false (outstanding g) 0 t in
-    let left : g .columns - g .ticks ≡ suc (c .timer - 1) = omega arith in
-    rw left (resending S _ (expires S (c .timer - 1) w v e x (omega arith) left)))
+    resending S _ (expires-after S (ticksLeft g) w v e x (omega arith) (omega arith) (omega arith)))

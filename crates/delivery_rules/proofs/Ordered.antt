@@ -21,6 +21,8 @@ use Rattle.delivery_rules.specs.Model.{
   isUp,
   outstanding,
   isRunning,
+  isOldest,
+  isLast,
   goneWith,
   seenWith,
   seenReply,
@@ -55,13 +57,13 @@ running g q = ltb-true 0 (outstanding g) (second-true (isUp g) (ltb 0 (outstandi
 reply-ordered : (g : Seen) (y : Reply) → Ordered g → Ordered (seenReply g y)
 unfolding seenReply
 reply-ordered g (ack k) o =
-    by-cases Ordered (isRunning g && eqb k (g .released % 16))
+    by-cases Ordered (isOldest g k)
     (λ t.
-    let some = running g (first-true (isRunning g) (eqb k (g .released % 16)) t) in
+    let some = running g (first-true (isRunning g) _ t) in
     record { released-le = omega arith; gone-le = o .gone-le })
     (λ _. o)
 reply-ordered g (nack k) o =
-    by-cases Ordered (isRunning g && eqb k (g .released % 16)) (λ _. record { released-le = o .released-le; gone-le = o .gone-le }) (λ _. o)
+    by-cases Ordered (isOldest g k) (λ _. record { released-le = o .released-le; gone-le = o .gone-le }) (λ _. o)
 reply-ordered g damaged-reply o = o
 
 tick-ordered : (g : Seen) → Ordered g → Ordered (seenTick g)
@@ -70,7 +72,7 @@ tick-ordered g o =
     let same : (t x : ℕ) → Ordered (seenWith g (g .gone) (g .released) t x) = λ t x.
     record { released-le = o .released-le; gone-le = o .gone-le } in
     by-cases Ordered (isRunning g)
-    (λ _. by-cases Ordered (eqb (g .ticks + 1) (g .columns)) (λ _. same 0 (g .expiries + 1)) (λ _. same (g .ticks + 1) (g .expiries)))
+    (λ _. by-cases Ordered (isLast g) (λ _. same 0 (g .expiries + 1)) (λ _. same (g .ticks + 1) (g .expiries)))
     (λ _. o)
 
 -- one more has gone out, or none

@@ -1,7 +1,7 @@
 -- At every moment of our two ends, what is delivered is the first so many accepted, and the counters are what is seen from outside.
 -- Assumes nothing.
 use mathlib.Core.Path.{_≡_, refl, sym, _∙_, ap, subst}
-use mathlib.Core.Bool.{Bool, true, false}
+use mathlib.Core.Bool.{Bool, true, false, not, _&&_}
 use mathlib.Core.List.{List, [], _∷_}
 use Prim.Native.Nat.{ℕ, _+_, _-_, _*_, _%_, _≤_, _<_}
 use native.Mathlib.Omega.{arith}
@@ -17,12 +17,16 @@ use Rattle.retry_rules.specs.declared.Receiver.{Receiver}
 use Rattle.retry_rules.proofs.Kept.{fresh-sender-kept, fresh-receiver-kept}
 use Rattle.retry_rules.proofs.Refusals.{fresh-sender-number, fresh-receiver-number}
 use Rattle.retry_rules.proofs.Seen.{Begins, fresh-passes, size-passes}
-use Rattle.retry_rules.specs.States.{senderRule, receiverRule, Eight}
+use Rattle.retry_rules.specs.States.{isUp as saysUp, isDown, senderRule, receiverRule, Eight}
+use Rattle.retry_rules.specs.Tick.{tickOf}
 use Rattle.delivery_rules.specs.Model.{
   Item,
   damaged,
   Reply,
   damaged-reply,
+  Seen,
+  isUp,
+  seenTick,
   Event,
   offer,
   send,
@@ -43,7 +47,8 @@ use Rattle.delivery_rules.specs.Demand.{Allowed, FirstSoMany, Moment, at
 use Rattle.delivery_rules.specs.Ours.{ours}
 use Rattle.delivery_rules.specs.Honest.{Honest}
 use Rattle.delivery_rules.proofs.Lines.{empty, lost, damaged-at}
-use Rattle.delivery_rules.proofs.Invariant.{Inv, numbers, lined-inv}
+use Rattle.delivery_rules.proofs.Calls.{tick-fell, down-fell}
+use Rattle.delivery_rules.proofs.Invariant.{Inv, numbers, up, down, lined-inv}
 use Rattle.delivery_rules.proofs.SenderSteps.{offer-inv, send-inv}
 use Rattle.delivery_rules.proofs.ReplySteps.{hears-inv, tick-inv}
 use Rattle.delivery_rules.proofs.ArrivalSteps.{arrives-inv}
@@ -116,26 +121,49 @@ pub first-so-many : (m : Moment ours) → FirstSoMany (at ours m .seen .delivere
 first-so-many m = moment-inv m .prefix
 
 -- our counters tell the truth
+module _ (S : ℕ) (w : World ours) (v : Inv S w) where
+  up-is : saysUp (w .sender .counters) ≡ isUp (w .seen)
+  up-is =
+      by-test (isUp (w .seen)) (λ t. eq-eqb (w .sender .counters .link) 1 (up S w v (ltb-true (w .seen .expiries) 3 t) .up) ∙ sym t)
+      (λ t.
+      let two = down S w v (ltb-false (w .seen .expiries) 3 t) in
+      ne-eqb (w .sender .counters .link) 1 (λ q. omega arith) ∙ sym t)
+
+  down-is : isDown (w .sender .counters) ≡ not (isUp (w .seen))
+  down-is =
+      by-test (isUp (w .seen))
+      (λ t.
+      let one = up S w v (ltb-true (w .seen .expiries) 3 t) .up in
+      ne-eqb (w .sender .counters .link) 2 (λ q. omega arith) ∙ ap not (sym t))
+      (λ t. eq-eqb (w .sender .counters .link) 2 (down S w v (ltb-false (w .seen .expiries) 3 t)) ∙ ap not (sym t))
+
+fell : (S : ℕ) (w : World ours) → Inv S w → tickOf (w .sender) .fell ≡ (isUp (w .seen) && not (isUp (seenTick (w .seen))))
+unfolding step
+fell S w v =
+    by-test (isUp (w .seen))
+    (λ t.
+    tick-fell (w .sender) (up S w v (ltb-true (w .seen .expiries) 3 t)) ∙ down-is S (step ours tick w) (step-inv S tick w v)
+    ∙ sym (ap (λ (b : Bool). b && not (isUp (seenTick (w .seen)))) t))
+    (λ t.
+    down-fell (w .sender) (down S w v (ltb-false (w .seen .expiries) 3 t))
+    ∙ sym (ap (λ (b : Bool). b && not (isUp (seenTick (w .seen)))) t))
+
 honest-of : (S : ℕ) (w : World ours) → Inv S w → Honest (w .sender) (w .receiver) (w .seen)
 honest-of S w v =
     let c = w .sender .counters in
-    let g = w .seen in
     let n = numbers (w .sender) (v .rule) .numbers in
     let u = v .counts in
     record {
-      up = by-test (ltb (g .expiries) 3)
-          (λ t.
-          let few = ltb-true (g .expiries) 3 t in
-          eq-eqb (c .link) 1 (omega arith) ∙ sym t)
-          (λ t.
-          let three = ltb-false (g .expiries) 3 t in
-          ne-eqb (c .link) 1 (λ q. omega arith) ∙ sym t);
+      up = up-is S w v;
       oldest-is = u .oldest;
       stored-is = omega arith;
       outstanding-is = omega arith;
+      released-is = u .released;
       expiries-is = u .expiries;
       timer-is = omega arith;
+      fell-is = fell S w v;
       expected-is = v .follows .expected;
+      received-is = v .follows .received;
     }
 
 pub honest : (m : Moment ours) → Honest (at ours m .sender) (at ours m .receiver) (at ours m .seen)

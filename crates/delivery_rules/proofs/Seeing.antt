@@ -1,13 +1,13 @@
 -- What is seen from outside of a reply and of a tick, by cases.
 -- Assumes nothing.
-use mathlib.Core.Path.{_≡_, refl, sym}
+use mathlib.Core.Path.{_≡_, refl, sym, _∙_}
 use mathlib.Core.Bool.{Bool, true, false, cond, _&&_}
 use Prim.Native.Nat.{ℕ, _+_, _-_, _%_, _≤_, _<_}
 use native.Mathlib.Omega.{arith}
 use lib.Dec.{ltb, eqb}
 use borrow.Author.Tests.{lt-ltb, le-ltb, eq-eqb, ne-eqb}
 use Rattle.laws.proofs.Cases.{by-cases, both-true, cond-true, cond-false, false-is-not-true}
-use Rattle.delivery_rules.specs.Model.{Reply, ack, nack, damaged-reply, Seen, isUp, outstanding, isRunning, seenWith, seenReply, seenTick}
+use Rattle.delivery_rules.specs.Model.{Reply, ack, nack, damaged-reply, Seen, isUp, outstanding, isRunning, isOldest, isLast, seenWith, seenReply, seenTick}
 
 pub not-first : (a b : Bool) → a ≡ false → a && b ≡ false
 not-first true b q = absurd (false-is-not-true (sym q))
@@ -22,36 +22,26 @@ pub record Quiet (g h : Seen) : Type 0 where
   pub accepted : h .accepted ≡ g .accepted
   pub delivered : h .delivered ≡ g .delivered
 
-pub reply-lists : (g : Seen) (y : Reply) → Quiet g (seenReply g y)
+pub record Heard (g h : Seen) : Type 0 where
+  pub lists : Quiet g h
+  pub expiries : h .expiries ≤ g .expiries
+
+pub reply-heard : (g : Seen) (y : Reply) → Heard g (seenReply g y)
 unfolding seenReply
-reply-lists g (ack k) =
-    by-cases (Quiet g) (isRunning g && eqb k (g .released % 16)) (λ _. record { accepted = refl; delivered = refl })
-    (λ _. record { accepted = refl; delivered = refl })
-reply-lists g (nack k) =
-    by-cases (Quiet g) (isRunning g && eqb k (g .released % 16)) (λ _. record { accepted = refl; delivered = refl })
-    (λ _. record { accepted = refl; delivered = refl })
-reply-lists g damaged-reply = record { accepted = refl; delivered = refl }
+reply-heard g (ack k) =
+    by-cases (Heard g) (isOldest g k) (λ _. record { lists = record { accepted = refl; delivered = refl }; expiries = omega arith })
+    (λ _. record { lists = record { accepted = refl; delivered = refl }; expiries = omega arith })
+reply-heard g (nack k) =
+    by-cases (Heard g) (isOldest g k) (λ _. record { lists = record { accepted = refl; delivered = refl }; expiries = omega arith })
+    (λ _. record { lists = record { accepted = refl; delivered = refl }; expiries = omega arith })
+reply-heard g damaged-reply = record { lists = record { accepted = refl; delivered = refl }; expiries = omega arith }
 
 pub tick-lists : (g : Seen) → Quiet g (seenTick g)
 unfolding seenTick
 tick-lists g =
     by-cases (Quiet g) (isRunning g)
-    (λ _. by-cases (Quiet g) (eqb (g .ticks + 1) (g .columns)) (λ _. record { accepted = refl; delivered = refl })
-    (λ _. record { accepted = refl; delivered = refl }))
+    (λ _. by-cases (Quiet g) (isLast g) (λ _. record { accepted = refl; delivered = refl }) (λ _. record { accepted = refl; delivered = refl }))
     (λ _. record { accepted = refl; delivered = refl })
-
-record NoMore (g h : Seen) : Type 0 where
-  expiries : h .expiries ≤ g .expiries
-
-pub reply-expiries : (g : Seen) (y : Reply) → seenReply g y .expiries ≤ g .expiries
-unfolding seenReply
-reply-expiries g (ack k) =
-    by-cases (NoMore g) (isRunning g && eqb k (g .released % 16)) {x = seenWith g (g .gone) (g .released + 1) 0 0} {y = g}
-    (λ _. record { expiries = omega arith }) (λ _. record { expiries = omega arith }) .expiries
-reply-expiries g (nack k) =
-    by-cases (NoMore g) (isRunning g && eqb k (g .released % 16)) {x = seenWith g (g .gone) (g .released) 0 0} {y = g}
-    (λ _. record { expiries = omega arith }) (λ _. record { expiries = omega arith }) .expiries
-reply-expiries g damaged-reply = omega arith
 
 module _ (g : Seen) where
   runs : g .expiries < 3 → g .released < g .gone → isRunning g ≡ true
@@ -67,42 +57,42 @@ module _ (g : Seen) where
   -- then a reply is not heard, and a tick does nothing
   pub unheard : (y : Reply) → isRunning g ≡ false → seenReply g y ≡ g
   unfolding seenReply
-  unheard (ack k) q = rw q
-  unheard (nack k) q = rw q
+  unheard (ack k) q = cond-false _ _ g (not-first (isRunning g) _ q)
+  unheard (nack k) q = cond-false _ _ g (not-first (isRunning g) _ q)
   unheard damaged-reply q = refl
 
   pub unticked : isRunning g ≡ false → seenTick g ≡ g
   unfolding seenTick
-  unticked q = rw q
+  unticked q = cond-false _ _ g q
 
   module _ (k : ℕ) where
     pub other-ack : (k ≡ g .released % 16 → ⊥) → seenReply g (ack k) ≡ g
     unfolding seenReply
     other-ack ne =
-        cond-false _ _ g (not-second (isRunning g) (eqb k (g .released % 16)) (ne-eqb k (g .released % 16) ne))
+        cond-false _ _ g (not-second (isRunning g) _ (ne-eqb k (g .released % 16) ne))
 
     pub other-nack : (k ≡ g .released % 16 → ⊥) → seenReply g (nack k) ≡ g
     unfolding seenReply
     other-nack ne =
-        cond-false _ _ g (not-second (isRunning g) (eqb k (g .released % 16)) (ne-eqb k (g .released % 16) ne))
+        cond-false _ _ g (not-second (isRunning g) _ (ne-eqb k (g .released % 16) ne))
 
   module _ (few : g .expiries < 3) (some : g .released < g .gone) where
     -- the oldest's number
     pub own-ack : (k : ℕ) → k ≡ g .released % 16 → seenReply g (ack k) ≡ seenWith g (g .gone) (g .released + 1) 0 0
     unfolding seenReply
     own-ack k q =
-        cond-true _ _ g (both-true (isRunning g) (eqb k (g .released % 16)) (runs few some) (eq-eqb k (g .released % 16) q))
+        cond-true _ _ g (both-true (isRunning g) _ (runs few some) (eq-eqb k (g .released % 16) q))
 
     pub own-nack : (k : ℕ) → k ≡ g .released % 16 → seenReply g (nack k) ≡ seenWith g (g .gone) (g .released) 0 0
     unfolding seenReply
     own-nack k q =
-        cond-true _ _ g (both-true (isRunning g) (eqb k (g .released % 16)) (runs few some) (eq-eqb k (g .released % 16) q))
+        cond-true _ _ g (both-true (isRunning g) _ (runs few some) (eq-eqb k (g .released % 16) q))
 
     -- a tick before the T-th, and the T-th
     pub plain-tick : (g .ticks + 1 ≡ g .columns → ⊥) → seenTick g ≡ seenWith g (g .gone) (g .released) (g .ticks + 1) (g .expiries)
     unfolding seenTick
-    plain-tick ne = rw (runs few some, ne-eqb (g .ticks + 1) (g .columns) ne)
+    plain-tick ne = cond-true _ _ g (runs few some) ∙ cond-false _ _ _ (ne-eqb (g .ticks + 1) (g .columns) ne)
 
     pub expiry : g .ticks + 1 ≡ g .columns → seenTick g ≡ seenWith g (g .gone) (g .released) 0 (g .expiries + 1)
     unfolding seenTick
-    expiry q = rw (runs few some, eq-eqb (g .ticks + 1) (g .columns) q)
+    expiry q = cond-true _ _ g (runs few some) ∙ cond-true _ _ _ (eq-eqb (g .ticks + 1) (g .columns) q)

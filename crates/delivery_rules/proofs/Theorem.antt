@@ -15,7 +15,7 @@ use Rattle.delivery_rules.specs.Ours.{ours}
 use Rattle.delivery_rules.proofs.Calls.{offer-either}
 use Rattle.delivery_rules.proofs.Invariant.{Inv, up}
 use Rattle.delivery_rules.proofs.Safety.{sender-begins, receiver-begins, step-inv, run-inv, moment-inv, first-so-many}
-use Rattle.delivery_rules.proofs.Drills.{calm-run, calm-expiries, expiry-accepted, sends-accepted, can-drill}
+use Rattle.delivery_rules.proofs.Drills.{calm-run, calm-expiries, expired, sends-accepted, can-drill}
 use Rattle.delivery_rules.proofs.Recovery.{Finished, sent-each}
 use Rattle.delivery_rules.proofs.Expiry.{expires-once}
 
@@ -63,7 +63,7 @@ drill-recovers S w v x d =
     let r = expires-once S emptied (run-inv S (d .emptying) w v) (d .empty) few in
     let ready = expireOnce ours emptied in
     recovered S w (drilled ours w d) (sent-each S (d .sending) (ready .seen .released) ready (d .each) r)
-    (sends-accepted ours (d .sending) (ready .seen .released) ready (d .each) ∙ expiry-accepted ours emptied ∙ calm-run ours (d .emptying) w (d .calm))
+    (sends-accepted ours (d .sending) (ready .seen .released) ready (d .each) ∙ expired ours emptied .accepted ∙ calm-run ours (d .emptying) w (d .calm))
 
 pub delivers : Delivers ours
 delivers =

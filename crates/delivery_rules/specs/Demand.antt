@@ -16,6 +16,7 @@ use Rattle.delivery_rules.specs.Model.{
   isUp,
   outstanding,
   stored,
+  ticksLeft,
   seenTick,
   Event,
   offer,
@@ -93,7 +94,7 @@ module _ (E : Ends) where
   -- let the timer expire once if anything sent is still unacknowledged
   unfoldable pub expireOnce : World E → World E
   expireOnce w =
-      cond (eqb (outstanding (w .seen)) 0) w (run E (replicate (w .seen .columns - w .seen .ticks) tick) w)
+      cond (eqb (outstanding (w .seen)) 0) w (run E (replicate (ticksLeft (w .seen)) tick) w)
 
   -- the output is long enough for what arrives next
   abbrev pub Fits : List Item → List ℕ → Type 0

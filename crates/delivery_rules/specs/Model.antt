@@ -92,6 +92,16 @@ stored g = length (g .accepted) - g .released
 abbrev pub isRunning : Seen → Bool
 isRunning g = isUp g && ltb 0 (outstanding g)
 
+-- a reply with the number k is heard as one to the oldest; the next tick is the T-th
+abbrev pub isOldest : Seen → ℕ → Bool
+isOldest g k = isRunning g && eqb k (g .released % 16)
+
+abbrev pub isLast : Seen → Bool
+isLast g = eqb (g .ticks + 1) (g .columns)
+
+abbrev pub ticksLeft : Seen → ℕ
+ticksLeft g = g .columns - g .ticks
+
 -- how many different segments have gone out once the number k has: the next one, if k is its number
 unfoldable pub goneWith : Seen → ℕ → ℕ
 goneWith g k =
@@ -111,17 +121,15 @@ seenWith g gone released ticks expiries =
 
 -- an ACK or NACK of the oldest's number restarts the timer and clears the count; the ACK releases the oldest
 unfoldable pub seenReply : Seen → Reply → Seen
-seenReply g (ack k) =
-    cond (isRunning g && eqb k (g .released % 16)) (seenWith g (g .gone) (g .released + 1) 0 0) g
-seenReply g (nack k) =
-    cond (isRunning g && eqb k (g .released % 16)) (seenWith g (g .gone) (g .released) 0 0) g
+seenReply g (ack k) = cond (isOldest g k) (seenWith g (g .gone) (g .released + 1) 0 0) g
+seenReply g (nack k) = cond (isOldest g k) (seenWith g (g .gone) (g .released) 0 0) g
 seenReply g damaged-reply = g
 
 -- the T-th tick is an expiry
 unfoldable pub seenTick : Seen → Seen
 seenTick g =
     cond (isRunning g)
-    (cond (eqb (g .ticks + 1) (g .columns)) (seenWith g (g .gone) (g .released) 0 (g .expiries + 1))
+    (cond (isLast g) (seenWith g (g .gone) (g .released) 0 (g .expiries + 1))
     (seenWith g (g .gone) (g .released) (g .ticks + 1) (g .expiries)))
     g
 

@@ -21,13 +21,17 @@ use Rattle.delivery_rules.specs.Model.{Content, Item, segment, damaged, 
 abbrev pub offeringOf : Offered → List ℕ → Offering Sender
 offeringOf a buffers = record { accepted = eqb (a .refusal) 0; state = a .sender; buffers = buffers }
 
+-- a content, as an answer says it and its bytes stand in the output
+abbrev pub contentOf : ℕ → Bool → ℕ → List ℕ → Content
+contentOf channel bad n output = record { channel = channel; bad = bad; bytes = take n output }
+
 -- what goes out is what the answer says and what stands in the output
 abbrev pub sendingOf : Sent → List ℕ → Sending Sender
 sendingOf a output =
     record {
       sent = a .sent;
       number = a .number;
-      content = record { channel = a .channel; bad = a .bad; bytes = take (a .length) output };
+      content = contentOf (a .channel) (a .bad) (a .length) output;
       state = a .sender;
     }
 
@@ -38,7 +42,7 @@ arrivingOf a output =
       answered = eqb (a .refusal) 0;
       reply = cond (a .nack) (nack (a .number)) (ack (a .number));
       delivered = a .delivered;
-      content = record { channel = a .channel; bad = a .bad; bytes = take (a .length) output };
+      content = contentOf (a .channel) (a .bad) (a .length) output;
       state = a .receiver;
     }
 

@@ -7,6 +7,7 @@ use Prim.Native.Nat.{ℕ, _-_, _≤_, _<_}
 use native.Mathlib.Omega.{arith}
 use lib.Dec.{eqb}
 use lib.ListN.{length, replicate, set}
+use Rattle.laws.proofs.Cases.{by-cases}
 use Rattle.retry_rules.specs.Numbers.{sizeAllowed}
 use Rattle.retry_rules.specs.declared.Receiver.{Receiver}
 use Rattle.delivery_rules.specs.Model.{
@@ -16,6 +17,8 @@ use Rattle.delivery_rules.specs.Model.{
   damaged,
   Reply,
   Ends,
+  outstanding,
+  ticksLeft,
   Event,
   offer,
   send,
@@ -36,7 +39,7 @@ use Rattle.delivery_rules.specs.Model.{
   start,
 }
 use Rattle.delivery_rules.specs.Demand.{Good, AllGood, Allowed, Moment, at, AllCalm, expireOnce, SendsEach, Drill, drilled, Delivers}
-use Rattle.delivery_rules.proofs.Seeing.{reply-lists, tick-lists}
+use Rattle.delivery_rules.proofs.Seeing.{reply-heard, tick-lists}
 use Rattle.delivery_wrong.specs.Altered.{acceptsNone, neverSends, neverSendsAndLies, onlyNacks, acksOnly, acksAndDeliversNothing, refusesArrivals}
 
 -- a good segment, and eight of them
@@ -70,14 +73,11 @@ module _ (E : Ends) where
 
     after-drill : (w : World E) (d : Drill E w) → P w → P (drilled E w d)
     unfolding expireOnce
-    after-drill w d p = along (d .sending) (expireOnce E v) (either (eqb (v .seen .gone - v .seen .released) 0))
-      where
-        v : World E
-        v = run E (d .emptying) w
-
-        either : (b : Bool) → P (cond b v (run E (replicate (v .seen .columns - v .seen .ticks) tick) v))
-        either true = along (d .emptying) w p
-        either false = along (replicate (v .seen .columns - v .seen .ticks) tick) v (along (d .emptying) w p)
+    after-drill w d p =
+        let v = run E (d .emptying) w in
+        let q = along (d .emptying) w p in
+        along (d .sending) (expireOnce E v)
+        (by-cases P (eqb (outstanding (v .seen)) 0) (λ _. q) (λ _. along (replicate (ticksLeft (v .seen)) tick) v q))
 
   -- fresh ends, and the drill that has nothing to do; then eight good offers
   abbrev begin : World E
@@ -123,7 +123,7 @@ module _ (E : Ends) where
 
   hears-same : (w : World E) (l : List Reply) → hears E w l .seen .delivered ≡ w .seen .delivered
   hears-same w [] = refl
-  hears-same w (y ∷ l) = reply-lists (w .seen) y .delivered
+  hears-same w (y ∷ l) = reply-heard (w .seen) y .lists .delivered
 
   module _ (none : (r : E .Receiver) (i : Item) (room : Bool) (output : List ℕ) → E .arrive r i room output .delivered ≡ false) where
     arrives-none : (w : World E) (room : Bool) (output : List ℕ) (l : List Item) → Undelivered w → Undelivered (arrives E w room output l)
@@ -169,7 +169,7 @@ module _ (E : Ends) where
       where
         heard : (l : List Reply) → Still (hears E w l)
         heard [] = p
-        heard (y ∷ l) = record { line = p .line; nothing = reply-lists (w .seen) y .delivered ∙ p .nothing }
+        heard (y ∷ l) = record { line = p .line; nothing = reply-heard (w .seen) y .lists .delivered ∙ p .nothing }
     still (lose-reply n) w p = record { line = p .line; nothing = p .nothing }
     still (damage-reply n) w p = record { line = p .line; nothing = p .nothing }
     still tick w p = record { line = p .line; nothing = tick-lists (w .seen) .delivered ∙ p .nothing }
