@@ -1,9 +1,9 @@
 -- A run that is written down refutes ends: each condition of the drill is tested, and so is what comes of it.
 -- Assumes nothing.
 use mathlib.Core.Path.{_≡_, refl, sym, _∙_, ap}
-use mathlib.Core.Bool.{Bool, true, false, not, _&&_}
+use mathlib.Core.Bool.{Bool, true, false, not, cond, _&&_}
 use mathlib.Core.List.{List, [], _∷_, _++_, map}
-use Prim.Native.Nat.{ℕ, zero, suc}
+use Prim.Native.Nat.{ℕ, zero, suc, _+_, _*_}
 use lib.Dec.{eqb, leb, ltb}
 use lib.ListN.{length, getD, take, replicate}
 use borrow.Author.Tests.{eqb-true, eqb-false, leb-true, ltb-true, eq-eqb, not-true}
@@ -36,9 +36,9 @@ use Rattle.delivery_rules.specs.Model.{
 }
 use Rattle.delivery_rules.specs.Demand.{noContent, Allowed, Moment, at, AllCalm, expireOnce, Fits, SendsEach, Drill, Delivers}
 
--- the i-th segment: one byte, on channel 3
+-- the i-th segment: one byte, on channel 3, with the bad mark
 abbrev pub nth : ℕ → Content
-nth i = record { channel = 3; bad = false; bytes = i ∷ [] }
+nth i = record { channel = 3; bad = true; bytes = i ∷ [] }
 
 abbrev pub segments : ℕ → ℕ → List Content
 segments from n = map nth (countFrom from n)
@@ -63,9 +63,11 @@ allowed = record { time = refl; size = refl; eight = refl }
 abbrev pub round : List Event
 round = send output ∷ arrive true output ∷ hear ∷ []
 
--- the first byte of the i-th
-abbrev byteOf : List Content → ℕ → ℕ
-byteOf l i = getD (getD l i noContent .bytes) 0 0
+-- the channel, the mark and the first byte of the i-th, as one number
+abbrev digest : List Content → ℕ → ℕ
+digest l i =
+    let x = getD l i noContent in
+    x .channel + 16 * cond (x .bad) 1 0 + 32 * getD (x .bytes) 0 0
 
 abbrev none : {A : Type 0} → List A → Bool
 none [] = true
@@ -141,15 +143,15 @@ module _ (E : Ends) where
   unfoldable pub breaksSafety : List Event → ℕ → Bool
   breaksSafety es i =
       let g = after es .seen in
-      isUp g && not (eqb (byteOf (g .delivered) i) (byteOf (take (length (g .delivered)) (g .accepted)) i))
+      isUp g && not (eqb (digest (g .delivered) i) (digest (take (length (g .delivered)) (g .accepted)) i))
 
   pub unsafe : (es : List Event) (i : ℕ) → breaksSafety es i ≡ true → Delivers E → ⊥
   unfolding breaksSafety
   unsafe es i q d =
       let g = after es .seen in
-      let a = byteOf (g .delivered) i in
-      let b = byteOf (take (length (g .delivered)) (g .accepted)) i in
-      let same : a ≡ b = ap (λ (l : List Content). byteOf l i) (d .safe (moment es) (first-true (isUp g) _ q)) in
+      let a = digest (g .delivered) i in
+      let b = digest (take (length (g .delivered)) (g .accepted)) i in
+      let same : a ≡ b = ap (λ (l : List Content). digest l i) (d .safe (moment es) (first-true (isUp g) _ q)) in
       eqb-false a b (not-true (eqb a b) (second-true (isUp g) _ q)) same
 
   -- the link is up with fewer than two expiries, both lines are empty, the events are a drill, and after it not all is delivered or something is stored
@@ -164,6 +166,15 @@ module _ (E : Ends) where
       && (none (w .backward)
       && (checked (ready .seen .released) fs ready
       && not (eqb (length (end .seen .delivered)) (length (w .seen .accepted)) && eqb (stored (end .seen)) 0)))))
+
+  -- the same, but all is delivered and nothing stored
+  unfoldable pub recoversHere : List Event → List Event → Bool
+  recoversHere es fs =
+      let w = after es in
+      let ready = expireOnce E w in
+      let end = run E fs ready in
+      checked (ready .seen .released) fs ready
+      && (eqb (length (end .seen .delivered)) (length (w .seen .accepted)) && eqb (stored (end .seen)) 0)
 
   pub unrecovered : (es fs : List Event) → breaksRecovery es fs ≡ true → Delivers E → ⊥
   unfolding breaksRecovery run AllCalm

@@ -1,5 +1,5 @@
 pub mod Never
 pub mod ByRun
-pub mod FirstOnly
+pub mod OneCall
 pub mod Sixteen
 pub mod Windows

@@ -1,7 +1,7 @@
 -- A window of nine or more, a send point that stays behind, a buffer used again too early: a run against each.
 -- Assumes nothing.
 use mathlib.Core.Path.{_≡_, refl}
-use mathlib.Core.Bool.{Bool, true}
+use mathlib.Core.Bool.{Bool, true, false}
 use mathlib.Core.List.{List, [], _∷_, _++_, map}
 use Prim.Native.Nat.{ℕ}
 use lib.Dec.{T, eqb}
@@ -11,11 +11,11 @@ use Rattle.laws.proofs.Listed.{one-of-all}
 use Rattle.retry_rules.specs.Numbers.{amongLast}
 use Rattle.delivery_rules.specs.Model.{segment, goneWith, seenReply, seenTick, Event, offer, send, arrive, hear, lose-reply, tick, step, run}
 use Rattle.delivery_rules.specs.Demand.{expireOnce, Delivers}
-use Rattle.delivery_wrong.specs.Plain.{plainOffer, plainSend, plainHear, plainTick, plainArrive, wide, leftBehind, usedAgain}
-use Rattle.delivery_wrong.proofs.ByRun.{nth, segments, times, output, round, after, checked, breaksSafety, unsafe, breaksRecovery, unrecovered}
+use Rattle.delivery_wrong.specs.Plain.{plainOffer, plainSend, plainHear, plainTick, plainArrive, right, wide, leftBehind, usedAgain}
+use Rattle.delivery_wrong.proofs.ByRun.{nth, segments, times, output, round, after, checked, breaksSafety, unsafe, breaksRecovery, unrecovered, recoversHere}
 
 -- nine are sent and delivered and their ACKs lost: the oldest is no longer one of the last eight, so it is answered with NACK for ever
-abbrev nineLost : List Event
+abbrev pub nineLost : List Event
 nineLost = map offer (segments 0 9) ++ times 9 (send output ∷ []) ++ times 9 (arrive true output ∷ []) ++ times 9 (lose-reply 0 ∷ [])
 
 stuck : T (allOf (λ n. breaksRecovery (wide n) nineLost (times 9 round)) (countFrom 9 8))
@@ -44,9 +44,19 @@ unfolding breaksRecovery checked run step expireOnce goneWith seenReply seenTick
 left-behind-refused = unrecovered leftBehind behind (times 8 round) refl
 
 -- eight are offered, and the eighth is stored where the first was: it is delivered in its place
-abbrev overwritten : List Event
+abbrev pub overwritten : List Event
 overwritten = map offer (segments 0 8) ++ send output ∷ arrive true output ∷ []
 
 pub used-again-refused : Delivers usedAgain → ⊥
 unfolding breaksSafety run step goneWith seenReply seenTick amongLast plainOffer plainSend plainHear plainTick plainArrive
 used-again-refused = unsafe usedAgain overwritten 0 refl
+
+-- the right choice comes through the same runs: it is the choice that breaks them
+pub record Control : Type 0 where
+  pub eight-stored : recoversHere (wide 8) nineLost (times 8 round) ≡ true
+  pub moved-up : recoversHere right behind (times 8 round) ≡ true
+  pub in-place : breaksSafety right overwritten 0 ≡ false
+
+pub control : Control
+unfolding recoversHere breaksSafety checked run step expireOnce goneWith seenReply seenTick amongLast plainOffer plainSend plainHear plainTick plainArrive
+control = record { eight-stored = refl; moved-up = refl; in-place = refl }

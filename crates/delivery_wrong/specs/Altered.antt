@@ -1,7 +1,7 @@
 -- Wrong ends that are ours with one call altered.
 use Prim.Native.Nat.{ℕ, _+_}
 use mathlib.Core.Bool.{Bool, true, false, cond}
-use mathlib.Core.List.{List}
+use mathlib.Core.List.{List, []}
 use lib.Dec.{eqb}
 use lib.ListN.{length}
 use Rattle.retry_rules.specs.declared.Counters.{Counters}
@@ -89,6 +89,31 @@ sendsTheFirst =
     (λ s buffers output.
     cond (eqb (s .counters .oldest + s .counters .point) 0) (ours .send s buffers output)
     (silent (record { counters = oneSent (s .counters); slots = s .slots })))
+
+-- a sender that stores nothing in its buffers
+abbrev pub storesNothing : Ends
+storesNothing =
+    withSender
+    (λ s buffers x.
+    record { accepted = ours .offer s buffers x .accepted; state = ours .offer s buffers x .state; buffers = buffers }) (ours .send)
+
+-- a receiver whose deliveries are altered
+abbrev pub delivering : (Content → Content) → Ends
+delivering f =
+    withArrival
+    (λ r i room output.
+    let a = ours .arrive r i room output in
+    record { answered = a .answered; reply = a .reply; delivered = a .delivered; content = f (a .content); state = a .state })
+
+-- the bad mark is lost, the channel is another, the bytes are not written
+abbrev pub losesTheMark : Ends
+losesTheMark = delivering (λ x. record { channel = x .channel; bad = false; bytes = x .bytes })
+
+abbrev pub anotherChannel : Ends
+anotherChannel = delivering (λ x. record { channel = 0; bad = x .bad; bytes = x .bytes })
+
+abbrev pub writesNothing : Ends
+writesNothing = delivering (λ x. record { channel = x .channel; bad = x .bad; bytes = [] })
 
 -- nothing is delivered, and a reply goes back
 abbrev pub only : Reply → Receiver → Arriving Receiver

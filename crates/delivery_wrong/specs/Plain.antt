@@ -152,6 +152,10 @@ plain c =
       arrive = plainArrive;
     }
 
+-- the rules
+abbrev pub right : Ends
+right = plain (record { window = 8; buffers = 8; moves-up = true })
+
 -- a window of nine or more
 abbrev pub wide : ℕ → Ends
 wide n = plain (record { window = n; buffers = n; moves-up = true })
