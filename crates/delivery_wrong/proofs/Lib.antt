@@ -2,4 +2,4 @@ pub mod Never
 pub mod ByRun
 pub mod OneCall
 pub mod Sixteen
-pub mod Windows
+pub mod WrongChoices

@@ -1,7 +1,7 @@
--- Ends in plain numbers, which go round only on the line: the rules of document 01 once more, with three choices left open.
--- With eight, eight and `true` they are the rules; each wrong end is one other choice.
+-- Ends in plain numbers, which go round only on the line: the rules of document 01 once more, with five choices left open.
+-- `right` makes them by the rules; each wrong end is one other choice.
 use Prim.Native.Nat.{ℕ, _+_, _-_, _%_, min, max}
-use mathlib.Core.Bool.{Bool, true, false, cond}
+use mathlib.Core.Bool.{Bool, true, false, not, cond, _&&_, _||_}
 use mathlib.Core.List.{List, []}
 use lib.Dec.{ltb, eqb}
 use lib.ListN.{getD, set, replicate}
@@ -15,6 +15,10 @@ pub record Choice : Type 0 where
   pub buffers : ℕ
   -- a send point left behind by an ACK moves up
   pub moves-up : Bool
+  -- an ACK releases its own segment only, if that is the oldest
+  pub own-only : Bool
+  -- a NACK of the oldest clears the expiry count
+  pub clears : Bool
 
 pub record PlainSender : Type 0 where
   pub columns : ℕ
@@ -29,6 +33,14 @@ pub record PlainSender : Type 0 where
 
 pub record PlainReceiver : Type 0 where
   pub taken : ℕ
+
+-- the third expiry takes the link down
+abbrev pub fallen : PlainSender → Bool
+fallen s = ltb 2 (s .expiries)
+
+-- with nothing outstanding, or on a link that is down, replies and ticks do nothing
+abbrev pub idle : PlainSender → Bool
+idle s = fallen s || eqb (s .gone) (s .released)
 
 abbrev pub moved : PlainSender → ℕ → ℕ → ℕ → PlainSender
 moved s point ticks expiries =
@@ -46,7 +58,7 @@ moved s point ticks expiries =
 module _ (c : Choice) where
   unfoldable pub plainOffer : PlainSender → List ℕ → Content → Offering PlainSender
   plainOffer s lent x =
-      cond (ltb (s .stored) (c .window))
+      cond (not (fallen s) && ltb (s .stored) (c .window))
       (record {
         accepted = true;
         buffers = lent;
@@ -65,7 +77,7 @@ module _ (c : Choice) where
 
   unfoldable pub plainSend : PlainSender → List ℕ → List ℕ → Sending PlainSender
   plainSend s lent output =
-      cond (ltb (s .point) (s .released + s .stored))
+      cond (not (fallen s) && ltb (s .point) (s .released + s .stored))
       (record {
         sent = true;
         number = s .point % 16;
@@ -83,33 +95,41 @@ module _ (c : Choice) where
       })
       (record { sent = false; number = 0; content = noContent; state = s })
 
-  -- the oldest is released
-  abbrev pub plainRelease : PlainSender → PlainSender
-  plainRelease s =
+  -- the n oldest are released
+  abbrev pub plainRelease : PlainSender → ℕ → PlainSender
+  plainRelease s n =
       record {
         columns = s .columns;
-        released = s .released + 1;
+        released = s .released + n;
         gone = s .gone;
-        stored = s .stored - 1;
-        point = cond (c .moves-up) (max (s .point) (s .released + 1)) (s .point);
+        stored = s .stored - n;
+        point = cond (c .moves-up) (max (s .point) (s .released + n)) (s .point);
         ticks = 0;
         expiries = 0;
         held = s .held;
       }
 
+  -- how many lie before the segment that the number k names, if it is outstanding; how many of them an ACK may pass over
+  abbrev pub ahead : PlainSender → ℕ → ℕ
+  ahead s k = (k + 16 - s .released % 16) % 16
+
+  abbrev pub reach : PlainSender → ℕ
+  reach s = cond (c .own-only) 1 (s .gone - s .released)
+
   unfoldable pub plainHear : PlainSender → Reply → PlainSender
   plainHear s (ack k) =
-      cond (eqb (s .gone) (s .released)) s
-      (cond (eqb k (s .released % 16)) (plainRelease s)
+      cond (idle s) s
+      (cond (ltb (ahead s k) (reach s)) (plainRelease s (ahead s k + 1))
       (cond (amongLast (min (s .released) 8) (s .released % 16) k) s (moved s (s .released) (s .ticks) (s .expiries))))
   plainHear s (nack k) =
-      cond (eqb (s .gone) (s .released)) s
-      (cond (eqb k (s .released % 16)) (moved s (s .released) 0 0) (moved s (s .released) (s .ticks) (s .expiries)))
+      cond (idle s) s
+      (cond (eqb k (s .released % 16)) (moved s (s .released) 0 (cond (c .clears) 0 (s .expiries)))
+      (moved s (s .released) (s .ticks) (s .expiries)))
   plainHear s damaged-reply = s
 
 unfoldable pub plainTick : PlainSender → PlainSender
 plainTick s =
-    cond (eqb (s .gone) (s .released)) s
+    cond (idle s) s
     (cond (eqb (s .ticks + 1) (s .columns))
     (moved s (cond (ltb (s .expiries) 2) (s .released) (s .point)) 0 (s .expiries + 1))
     (moved s (s .point) (s .ticks + 1) (s .expiries)))
@@ -154,20 +174,28 @@ plain c =
 
 -- the rules
 abbrev pub right : Ends
-right = plain (record { window = 8; buffers = 8; moves-up = true })
+right = plain (record { window = 8; buffers = 8; moves-up = true; own-only = true; clears = true })
 
 -- a window of nine or more
 abbrev pub wide : ℕ → Ends
-wide n = plain (record { window = n; buffers = n; moves-up = true })
+wide n = plain (record { window = n; buffers = n; moves-up = true; own-only = true; clears = true })
 
 -- all sixteen numbers in use at once
 abbrev pub sixteen : Ends
 sixteen = wide 16
 
--- a send point that stays behind the oldest after an ACK, and reads a freed buffer
-abbrev pub leftBehind : Ends
-leftBehind = plain (record { window = 8; buffers = 8; moves-up = false })
-
 -- a buffer used again before its segment is released
 abbrev pub usedAgain : Ends
-usedAgain = plain (record { window = 8; buffers = 7; moves-up = true })
+usedAgain = plain (record { window = 8; buffers = 7; moves-up = true; own-only = true; clears = true })
+
+-- a send point that stays behind the oldest after an ACK, and reads a freed buffer
+abbrev pub leftBehind : Ends
+leftBehind = plain (record { window = 8; buffers = 8; moves-up = false; own-only = true; clears = true })
+
+-- an ACK taken to cover all earlier segments
+abbrev pub coversEarlier : Ends
+coversEarlier = plain (record { window = 8; buffers = 8; moves-up = true; own-only = false; clears = true })
+
+-- an expiry count other than the expiries since the last clearing
+abbrev pub falseCount : Ends
+falseCount = plain (record { window = 8; buffers = 8; moves-up = true; own-only = true; clears = false })

@@ -1,4 +1,5 @@
--- A window of nine or more, a send point that stays behind, a buffer used again too early: a run against each.
+-- A window of nine or more, a send point that stays behind, a buffer used again too early, an ACK that covers earlier ones, a false expiry count:
+-- a run against each.
 -- Assumes nothing.
 use mathlib.Core.Path.{_≡_, refl}
 use mathlib.Core.Bool.{Bool, true, false}
@@ -9,9 +10,9 @@ use Rattle.laws.specs.Lists.{allOf, oneOf, countFrom}
 use Rattle.laws.proofs.Bools.{T-true}
 use Rattle.laws.proofs.Listed.{one-of-all}
 use Rattle.retry_rules.specs.Numbers.{amongLast}
-use Rattle.delivery_rules.specs.Model.{segment, goneWith, seenReply, seenTick, Event, offer, send, arrive, hear, lose-reply, tick, step, run}
+use Rattle.delivery_rules.specs.Model.{segment, goneWith, seenReply, seenTick, Event, offer, send, arrive, lose, hear, lose-reply, tick, step, run}
 use Rattle.delivery_rules.specs.Demand.{expireOnce, Delivers}
-use Rattle.delivery_wrong.specs.Plain.{plainOffer, plainSend, plainHear, plainTick, plainArrive, right, wide, leftBehind, usedAgain}
+use Rattle.delivery_wrong.specs.Plain.{plainOffer, plainSend, plainHear, plainTick, plainArrive, right, wide, leftBehind, usedAgain, coversEarlier, falseCount}
 use Rattle.delivery_wrong.proofs.ByRun.{nth, segments, times, output, round, after, checked, breaksSafety, unsafe, breaksRecovery, unrecovered, recoversHere}
 
 -- nine are sent and delivered and their ACKs lost: the oldest is no longer one of the last eight, so it is answered with NACK for ever
@@ -51,12 +52,32 @@ pub used-again-refused : Delivers usedAgain → ⊥
 unfolding breaksSafety run step goneWith seenReply seenTick amongLast plainOffer plainSend plainHear plainTick plainArrive
 used-again-refused = unsafe usedAgain overwritten 0 refl
 
+-- two are delivered, the first ACK is lost and the second is heard: segment 0 has not been acknowledged, and is not sent again
+abbrev pub firstAckLost : List Event
+firstAckLost =
+    map offer (segments 0 2) ++ times 2 (send output ∷ []) ++ times 2 (arrive true output ∷ []) ++ lose-reply 0 ∷ hear ∷ []
+
+pub covers-earlier-refused : Delivers coversEarlier → ⊥
+unfolding breaksRecovery checked run step expireOnce goneWith seenReply seenTick amongLast plainOffer plainSend plainHear plainTick plainArrive
+covers-earlier-refused = unrecovered coversEarlier firstAckLost (times 2 round) refl
+
+-- an expiry, a NACK of the oldest from a full receiver, an expiry: one is counted, and the next takes the link down
+abbrev pub clearedOnce : List Event
+clearedOnce =
+    offer (nth 0) ∷ send output ∷ lose 0 ∷ tick ∷ send output ∷ arrive false output ∷ hear ∷ tick ∷ []
+
+pub false-count-refused : Delivers falseCount → ⊥
+unfolding breaksRecovery checked run step expireOnce goneWith seenReply seenTick amongLast plainOffer plainSend plainHear plainTick plainArrive
+false-count-refused = unrecovered falseCount clearedOnce round refl
+
 -- the right choice comes through the same runs: it is the choice that breaks them
 pub record Control : Type 0 where
   pub eight-stored : recoversHere (wide 8) nineLost (times 8 round) ≡ true
   pub moved-up : recoversHere right behind (times 8 round) ≡ true
   pub in-place : breaksSafety right overwritten 0 ≡ false
+  pub own-only : recoversHere right firstAckLost (times 2 round) ≡ true
+  pub cleared : recoversHere right clearedOnce round ≡ true
 
 pub control : Control
 unfolding recoversHere breaksSafety checked run step expireOnce goneWith seenReply seenTick amongLast plainOffer plainSend plainHear plainTick plainArrive
-control = record { eight-stored = refl; moved-up = refl; in-place = refl }
+control = record { eight-stored = refl; moved-up = refl; in-place = refl; own-only = refl; cleared = refl }
