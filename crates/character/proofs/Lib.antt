@@ -1,0 +1,5 @@
+pub mod Signed
+pub mod Chosen
+pub mod Held
+pub mod Unpacking
+pub mod Runs

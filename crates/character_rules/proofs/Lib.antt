@@ -1,0 +1,11 @@
+pub mod Disparities
+pub mod Laws
+pub mod Found
+pub mod Trip
+pub mod Steps
+pub mod Balance
+pub mod Demand
+pub mod Wrong
+pub mod Told
+pub mod Packed
+pub mod RunLaws
