@@ -1,3 +1,5 @@
+pub mod BenchRows
+pub mod SamplesHold
 pub mod Disparities
 pub mod Laws
 pub mod Found
