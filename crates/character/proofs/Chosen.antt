@@ -4,11 +4,11 @@ use mathlib.Core.Path.{_≡_, refl, sym, _∙_, ap, ap₂}
 use mathlib.Core.Bool.{Bool, true, false, cond, not, _&&_, _||_}
 use Prim.Native.Nat.{ℕ, _+_, _*_, _/_, _%_}
 use lib.Dec.{T, eqb}
-use lib.IntN.{ℤ}
+use lib.IntN.{ℤ, negℤ}
 use borrow.Author.Tests.{eq-eqb, ne-eqb}
 use Rattle.symbol.specs.declared.Symbol.{Symbol}
 use Rattle.character_rules.specs.Disparity.{isPlus, isDisparity}
-use Rattle.character_rules.specs.Blocks.{turned, inForce, sixListed, sixChanges, sixBlock, fourListed, fourChanges, fourByList, alternateAtMinus, alternateAtPlus, fourBlock, firstBlock, between, secondBlock, character, closing}
+use Rattle.character_rules.specs.Blocks.{unbalanced, turned, inForce, sixListed, sixChanges, sixBlock, fourListed, fourChanges, fourByList, alternateAtMinus, alternateAtPlus, fourBlock, firstBlock, between, secondBlock, character, closing}
 use Rattle.character_rules.specs.Answers.{written}
 use Rattle.character.proofs.Signed.{again, back}
 
@@ -54,14 +54,14 @@ pub plus-last : (plus : Bool) (x : ℕ) → plus ≡ true → (x ≡ 11 → ⊥)
 plus-last plus x h i j = simp (h, ne-eqb x 11 i, ne-eqb x 13 j)
 
 -- the whole character, block by block
-module _ (s : Symbol) (p q : Bool) (d middle end : ℤ) (first second : ℕ) (td : T (isDisparity d)) (tm : T (isDisparity middle)) (te : T (isDisparity end)) (hp : p ≡ isPlus (again d)) (hs : first ≡ sixBlock (s .control) (s .byte % 32) p) (hm : middle ≡ turned 3 first (again d)) (hq : q ≡ isPlus (again middle)) (hf : second ≡ fourBlock (s .control) (s .byte % 32) (s .byte / 32) q) (he : end ≡ turned 2 second (again middle)) where
+module _ (s : Symbol) (p q u v : Bool) (d middle end : ℤ) (first second : ℕ) (td : T (isDisparity d)) (tm : T (isDisparity middle)) (te : T (isDisparity end)) (hp : p ≡ isPlus (again d)) (hs : first ≡ sixBlock (s .control) (s .byte % 32) p) (hu : u ≡ unbalanced 3 first) (hm : middle ≡ cond u (negℤ (again d)) (again d)) (hq : q ≡ isPlus (again middle)) (hf : second ≡ fourBlock (s .control) (s .byte % 32) (s .byte / 32) q) (hv : v ≡ unbalanced 2 second) (he : end ≡ cond v (negℤ (again middle)) (again middle)) where
   first-right : first ≡ firstBlock s d
   unfolding firstBlock
   first-right = hs ∙ ap (λ (b : Bool). sixBlock (s .control) (s .byte % 32) b) (hp ∙ ap isPlus (back d td))
 
   middle-right : again middle ≡ between s d
   unfolding between
-  middle-right = back middle tm ∙ hm ∙ ap₂ (λ (n : ℕ) (z : ℤ). turned 3 n z) first-right (back d td)
+  middle-right = back middle tm ∙ hm ∙ ap (λ (b : Bool). cond b (negℤ (again d)) (again d)) hu ∙ ap₂ (λ (n : ℕ) (z : ℤ). turned 3 n z) first-right (back d td)
 
   second-right : second ≡ secondBlock s d
   unfolding secondBlock
@@ -69,7 +69,7 @@ module _ (s : Symbol) (p q : Bool) (d middle end : ℤ) (first second : ℕ) (td
 
   end-right : again end ≡ closing s d
   unfolding closing
-  end-right = back end te ∙ he ∙ ap₂ (λ (n : ℕ) (z : ℤ). turned 2 n z) second-right middle-right
+  end-right = back end te ∙ he ∙ ap (λ (b : Bool). cond b (negℤ (again middle)) (again middle)) hv ∙ ap₂ (λ (n : ℕ) (z : ℤ). turned 2 n z) second-right middle-right
 
   pub blocks-right : written (first * 16 + second) (again end) ≡ written (character s d) (closing s d)
   unfolding character

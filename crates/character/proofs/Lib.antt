@@ -1,4 +1,5 @@
 pub mod Signed
+pub mod Balances
 pub mod Chosen
 pub mod Held
 pub mod Unpacking

@@ -1,7 +1,7 @@
 -- A disparity in memory: an i32 lies there as its bits.
 -- Assumes nothing.
 use mathlib.Core.Path.{_≡_, refl, sym, _∙_, ap, subst}
-use mathlib.Core.Bool.{Bool, true, false, not, _||_}
+use mathlib.Core.Bool.{Bool, true, false, cond, not, _||_}
 use Prim.Native.Nat.{ℕ, zero, suc, _<_, _-_, _^_}
 use native.Mathlib.Omega.{arith}
 use lib.Dec.{T, eqb}
@@ -10,7 +10,6 @@ use mir.Syntax.{w32}
 use mir.Val.{SFits, toZ, ofZ}
 use borrow.Author.Tests.{eq-eqb, ne-eqb}
 use Rattle.character_rules.specs.Disparity.{isPlus, isMinus, isDisparity}
-use Rattle.character_rules.specs.Blocks.{ones, turned}
 use Rattle.character_rules.proofs.Disparities.{both-ways}
 
 -- what a test of the bits says of the number
@@ -50,13 +49,10 @@ minus d = pos 0 -ℤ again d
 pub minus-fits : (d : ℤ) → T (isDisparity d) → SFits w32 (minus d)
 minus-fits = both-ways (λ (d : ℤ). SFits w32 (minus d)) (record { sfits = lib.Dec.lit< tt }) (record { sfits = lib.Dec.lit< tt })
 
--- after a block with n ones: kept, and turned over
-pub keeps : (half b n : ℕ) (d : ℤ) → T (isDisparity d) → n ≡ ones b → n ≡ half → (again d ≡ turned half b d) × T (isDisparity (again d))
-keeps half b n d t e h =
-    rw (eq-eqb (ones b) half (sym e ∙ h))
-    (both-ways (λ (z : ℤ). (again z ≡ z) × T (isDisparity (again z))) (refl, tt) (refl, tt) d t)
+-- after a block: kept, and turned over
+pub keeps : (over : Bool) (d : ℤ) → T (isDisparity d) → over ≡ false → (again d ≡ cond over (negℤ d) d) × T (isDisparity (again d))
+keeps over d t e = rw e (both-ways (λ (z : ℤ). (again z ≡ z) × T (isDisparity (again z))) (refl, tt) (refl, tt) d t)
 
-pub turns : (half b n : ℕ) (d : ℤ) → T (isDisparity d) → n ≡ ones b → (n ≡ half → ⊥) → (again (minus d) ≡ turned half b d) × T (isDisparity (again (minus d)))
-turns half b n d t e h =
-    rw (ne-eqb (ones b) half (λ g. h (e ∙ g)))
-    (both-ways (λ (z : ℤ). (again (minus z) ≡ negℤ z) × T (isDisparity (again (minus z)))) (refl, tt) (refl, tt) d t)
+pub turns : (over : Bool) (d : ℤ) → T (isDisparity d) → over ≡ true → (again (minus d) ≡ cond over (negℤ d) d) × T (isDisparity (again (minus d)))
+turns over d t e =
+    rw e (both-ways (λ (z : ℤ). (again (minus z) ≡ negℤ z) × T (isDisparity (again (minus z)))) (refl, tt) (refl, tt) d t)

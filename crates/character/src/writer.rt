@@ -5,9 +5,11 @@ use character_rules::Encoded;
 use symbol::Symbol;
 ghost use mathlib.Core.Path.{_≡_};
 ghost use Prim.Native.Nat.{_<_, _≤_};
+ghost use mathlib.Core.Bool.{cond};
 ghost use lib.Dec.{T};
+ghost use lib.IntN.{negℤ};
 ghost use Rattle.character_rules.specs.Disparity.{isDisparity};
-ghost use Rattle.character_rules.specs.Blocks.{ones, turned, inForce, sixListed, sixChanges, sixBlock, fourListed, fourChanges, fourByList, alternateAtMinus, alternateAtPlus, fourBlock, character, closing};
+ghost use Rattle.character_rules.specs.Blocks.{unbalanced, inForce, sixListed, sixChanges, sixBlock, fourListed, fourChanges, fourByList, alternateAtMinus, alternateAtPlus, fourBlock, character, closing};
 ghost use Rattle.character_rules.specs.Answers.{written, writingSays};
 ghost use Rattle.character_rules.specs.Writing.{writing};
 
@@ -70,28 +72,40 @@ const CONTROL_FOUR_BLOCKS: [u8; 8] = [
     0b0111,
 ];
 
-// How many ones a block has.
-fn ones(b: u8) -> u8
-    ensures { λ r. ⌜ r ≡ ones b ⌝ }
+// The unbalanced blocks: bit b is one if b has another number of ones than of zeros.
+const SIX_UNBALANCED: u64 = 0xfee9e997e997977f;
+
+const FOUR_UNBALANCED: u16 = 0xe997;
+
+fn six_unbalanced(b: u8) -> bool
+    requires { ⌜ b < 64 ⌝ }
+    ensures { λ r. ⌜ r ≡ unbalanced 3 b ⌝ }
 {
-    b % 2 + b / 2 % 2 + b / 4 % 2 + b / 8 % 2 + b / 16 % 2 + b / 32 % 2
+    (SIX_UNBALANCED >> b) % 2 == 1
+}
+
+fn four_unbalanced(b: u8) -> bool
+    requires { ⌜ b < 16 ⌝ }
+    ensures { λ r. ⌜ r ≡ unbalanced 2 b ⌝ }
+{
+    (FOUR_UNBALANCED >> b) % 2 == 1
 }
 
 // The disparity after a block: an unbalanced one turns it over.
-fn turn(half: u8, b: u8, d: i32) -> i32
+fn turn(over: bool, d: i32) -> i32
     requires { ⌜ T (isDisparity d) ⌝ }
-    ensures { λ r. ⌜ (r ≡ turned half b d) × T (isDisparity r) ⌝ }
+    ensures { λ r. ⌜ (r ≡ cond over (negℤ d) d) × T (isDisparity r) ⌝ }
 {
-    if ones(b) == half {
-        return d;
+    if over {
+        return -d;
     }
-    -d
+    d
 }
 
 // A block of the list at the disparity in force.
 fn in_force(whole: u8, changes: bool, plus: bool, b: u8) -> u8
     requires { ⌜ b ≤ whole ⌝ }
-    ensures { λ r. ⌜ r ≡ inForce whole changes plus b ⌝ }
+    ensures { λ r. ⌜ (r ≡ inForce whole changes plus b) × (r ≤ whole) ⌝ }
 {
     if changes {
         if plus {
@@ -103,7 +117,7 @@ fn in_force(whole: u8, changes: bool, plus: bool, b: u8) -> u8
 
 fn six_listed(control: bool, x: usize) -> u8
     requires { ⌜ x < 32 ⌝ }
-    ensures { λ r. ⌜ (r ≡ sixListed control x) × (r ≤ 63) ⌝ }
+    ensures { λ r. ⌜ (r ≡ sixListed control x) × (r < 64) ⌝ }
 {
     if control {
         if x == 28 {
@@ -114,12 +128,13 @@ fn six_listed(control: bool, x: usize) -> u8
 }
 
 fn six_changes(control: bool, x: usize, b: u8) -> bool
+    requires { ⌜ b < 64 ⌝ }
     ensures { λ r. ⌜ r ≡ sixChanges control x b ⌝ }
 {
     if control {
         return true;
     }
-    if ones(b) != 3 {
+    if six_unbalanced(b) {
         return true;
     }
     x == 7
@@ -127,7 +142,7 @@ fn six_changes(control: bool, x: usize, b: u8) -> bool
 
 fn six_block(control: bool, x: usize, plus: bool) -> u8
     requires { ⌜ x < 32 ⌝ }
-    ensures { λ r. ⌜ r ≡ sixBlock control x plus ⌝ }
+    ensures { λ r. ⌜ (r ≡ sixBlock control x plus) × (r < 64) ⌝ }
 {
     let b = six_listed(control, x);
     in_force(0b111111, six_changes(control, x, b), plus, b)
@@ -135,7 +150,7 @@ fn six_block(control: bool, x: usize, plus: bool) -> u8
 
 fn four_listed(control: bool, y: usize) -> u8
     requires { ⌜ y < 8 ⌝ }
-    ensures { λ r. ⌜ (r ≡ fourListed control y) × (r ≤ 15) ⌝ }
+    ensures { λ r. ⌜ (r ≡ fourListed control y) × (r < 16) ⌝ }
 {
     if control {
         return CONTROL_FOUR_BLOCKS[y];
@@ -144,12 +159,13 @@ fn four_listed(control: bool, y: usize) -> u8
 }
 
 fn four_changes(control: bool, y: usize, b: u8) -> bool
+    requires { ⌜ b < 16 ⌝ }
     ensures { λ r. ⌜ r ≡ fourChanges control y b ⌝ }
 {
     if control {
         return true;
     }
-    if ones(b) != 2 {
+    if four_unbalanced(b) {
         return true;
     }
     y == 3
@@ -157,7 +173,7 @@ fn four_changes(control: bool, y: usize, b: u8) -> bool
 
 fn four_by_list(control: bool, y: usize, plus: bool) -> u8
     requires { ⌜ y < 8 ⌝ }
-    ensures { λ r. ⌜ r ≡ fourByList control y plus ⌝ }
+    ensures { λ r. ⌜ (r ≡ fourByList control y plus) × (r < 16) ⌝ }
 {
     let b = four_listed(control, y);
     in_force(0b1111, four_changes(control, y, b), plus, b)
@@ -195,7 +211,7 @@ fn alternate_at_plus(x: usize, plus: bool) -> bool
 
 fn four_block(control: bool, x: usize, y: usize, plus: bool) -> u8
     requires { ⌜ y < 8 ⌝ }
-    ensures { λ r. ⌜ r ≡ fourBlock control x y plus ⌝ }
+    ensures { λ r. ⌜ (r ≡ fourBlock control x y plus) × (r < 16) ⌝ }
 {
     if control {
         return four_by_list(control, y, plus);
@@ -222,9 +238,9 @@ fn write_blocks(s: Symbol, d: i32) -> Encoded
     let x = (byte % 32) as usize;
     let y = (byte / 32) as usize;
     let first = six_block(control, x, is_plus(d));
-    let between = turn(3, first, d);
+    let between = turn(six_unbalanced(first), d);
     let second = four_block(control, x, y, is_plus(between));
-    let closing = turn(2, second, between);
+    let closing = turn(four_unbalanced(second), between);
     Encoded::Written {
         character: (first as u16) * 16 + (second as u16),
         disparity: closing,

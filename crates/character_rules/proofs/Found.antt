@@ -9,7 +9,7 @@ use native.Mathlib.Omega.{arith}
 use lib.Dec.{T, eqb, ltb, ltb→lt, eqb→eq}
 use lib.IntN.{ℤ, pos, negsuc}
 use Rattle.laws.specs.Lists.{allOf}
-use Rattle.laws.proofs.Bools.{and-left, and-right}
+use Rattle.laws.proofs.Bools.{and-left, and-right, agree, agree-eq}
 use Rattle.symbol.specs.Symbols.{isTwelve, isSymbol}
 use Rattle.symbol.specs.declared.Symbol.{Symbol}
 use Rattle.symbol.proofs.Every.{every-symbol}
@@ -21,18 +21,12 @@ use Rattle.character_rules.proofs.Disparities.{both-ways}
 -- ---- a test whether what is found is the symbol
 
 abbrev sameSymbol : Symbol → Symbol → Bool
-sameSymbol s r = eqb (s .byte) (r .byte) && cond (s .control) (r .control) (not (r .control))
-
-same-mark : (a b : Bool) → T (cond a b (not b)) → a ≡ b
-same-mark true true t = refl
-same-mark true false t = absurd t
-same-mark false true t = absurd t
-same-mark false false t = refl
+sameSymbol s r = eqb (s .byte) (r .byte) && agree (s .control) (r .control)
 
 same-symbol : (s r : Symbol) → T (sameSymbol s r) → s ≡ r
 same-symbol s r t =
     let x : s .byte ≡ r .byte = eqb→eq (s .byte) (r .byte) (and-left (eqb (s .byte) (r .byte)) _ t) in
-    let y : s .control ≡ r .control = same-mark (s .control) (r .control) (and-right (eqb (s .byte) (r .byte)) _ t) in
+    let y : s .control ≡ r .control = agree-eq (s .control) (r .control) (and-right (eqb (s .byte) (r .byte)) _ t) in
     λ i. record { byte = x i; control = y i }
 
 abbrev isIt : Symbol → Option Symbol → Bool

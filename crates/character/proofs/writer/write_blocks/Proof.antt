@@ -17,6 +17,9 @@ is-plus-requires c κs = search needs
 six-block-requires : tie.Need-six-block-requires
 six-block-requires c κs = search needs
 
+six-unbalanced-requires : tie.Need-six-unbalanced-requires
+six-unbalanced-requires c κs = search needs
+
 turn-requires : tie.Need-turn-requires
 turn-requires c κs = search needs
 
@@ -25,6 +28,9 @@ is-plus-requires-2 c κs = search needs
 
 four-block-requires : tie.Need-four-block-requires
 four-block-requires c κs = search needs
+
+four-unbalanced-requires : tie.Need-four-unbalanced-requires
+four-unbalanced-requires c κs = search needs
 
 turn-requires-2 : tie.Need-turn-requires-2
 turn-requires-2 c κs = search needs
@@ -42,9 +48,10 @@ add-t16 : tie.Need-add-t16
 add-t16 c = search needs
 
 returns : tie.Need-returns
-returns c = let a = c .before .before .before .before .before .before .args in
-    blocks-right (a .s) _ _ (a .d) _ _ _ _ (c .before .before .before .before .before .before .pre) (c .before .before .before .turn .ensures .1) (c .turn2 .ensures .1)
-    (c .before .before .before .before .before .is-plus .ensures) (c .before .before .before .before .six-block .ensures) (c .before .before .before .turn .ensures .0) (c .before .before .is-plus2 .ensures) (c .before .four-block .ensures) (c .turn2 .ensures .0)
+returns c = let s = c .before .before .before .before .before .before .before .before in
+    blocks-right (s .args .s) _ _ _ _ (s .args .d) _ _ _ _ (s .pre) (c .before .before .before .before .turn .ensures .1) (c .turn2 .ensures .1)
+    (c .before .before .before .before .before .before .before .is-plus .ensures) (c .before .before .before .before .before .before .six-block .ensures .0) (c .before .before .before .before .before .six-unbalanced .ensures) (c .before .before .before .before .turn .ensures .0)
+    (c .before .before .before .is-plus2 .ensures) (c .before .before .four-block .ensures .0) (c .before .four-unbalanced .ensures) (c .turn2 .ensures .0)
 
 pub write-blocks-spec : {M : Type 1} → statement M
 write-blocks-spec =
@@ -54,9 +61,11 @@ write-blocks-spec =
     cast-y
     is-plus-requires
     six-block-requires
+    six-unbalanced-requires
     turn-requires
     is-plus-requires-2
     four-block-requires
+    four-unbalanced-requires
     turn-requires-2
     cast-t13
     mul-t14
