@@ -1,11 +1,11 @@
 pub mod BenchRows
-pub mod SamplesHold
+pub mod BenchSamples
 pub mod Disparities
 pub mod Laws
 pub mod Found
 pub mod Trip
 pub mod Steps
-pub mod Balance
+pub mod LineBalance
 pub mod Demand
 pub mod Wrong
 pub mod Told
