@@ -9,3 +9,6 @@ pub mod Reply
 pub mod Tick
 pub mod Arrival
 pub mod Bench
+pub mod Calls
+pub mod Ledger
+pub mod History
