@@ -48,7 +48,7 @@ stored-agrees : (c : Counters) (l : Ledger) → Agrees c l → Agrees (oneStored
 stored-agrees c l a = omega arith
 
 -- numbers that go round
-wraps : (r p : ℕ) → (r % 16 + p) % 16 ≡ (r + p) % 16
+pub wraps : (r p : ℕ) → (r % 16 + p) % 16 ≡ (r + p) % 16
 wraps r p = omega arith
 
 same-place : (r p g : ℕ) → p ≤ g → g ≤ 8 → (r % 16 + p) % 16 ≡ (r + g) % 16 → p ≡ g

@@ -11,4 +11,6 @@ pub mod Held
 pub mod LastEight
 pub mod ReceiverHistory
 pub mod Honest
+pub mod OfferFull
+pub mod SenderHistory
 pub mod BenchRows

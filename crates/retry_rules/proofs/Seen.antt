@@ -49,10 +49,14 @@ pub record Sound (s : Sender) : Type 0 where
   pub rule : Holds (s .counters)
   pub slots : slotsRule s ≡ true
 
+pub rule-holds : (s : Sender) → senderRule s ≡ true → Holds (s .counters)
+unfolding senderRule
+rule-holds s q = holds (s .counters) (first-true (countersRule (s .counters)) (slotsRule s) q)
+
 pub sound : (s : Sender) → isDown (s .counters) ≡ false → senderRule s ≡ true → Sound s
 unfolding senderRule
 sound s d q =
-    let h = holds (s .counters) (first-true (countersRule (s .counters)) (slotsRule s) q) in
+    let h = rule-holds s q in
     let ne = eqb-false (s .counters .link) 2 d in
     let n = h .numbers in
     record { up = omega arith; rule = h; slots = second-true (countersRule (s .counters)) (slotsRule s) q }

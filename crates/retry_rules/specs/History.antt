@@ -3,10 +3,10 @@ use Prim.Native.Nat.{ℕ, _+_, _*_, _%_, _≤_, _<_}
 use mathlib.Core.Bool.{Bool, true, false}
 use mathlib.Core.List.{List}
 use mathlib.Core.Path.{_≡_}
-use mathlib.Core.Logic.{_↔_}
+use mathlib.Core.Logic.{_↔_, _⊎_}
 use Rattle.retry_rules.specs.Numbers.{sizeAllowed, timeAllowed}
-use Rattle.retry_rules.specs.Calls.{SenderCall, offer, tick, isReset, SenderEnd, ReceiverCall, arrival, damaged-arrival, Reply, ReceiverEnd}
-use Rattle.retry_rules.specs.Ledger.{Ledger, blank, waitsForReply, senderAfter, ledgerAfter, receiverAfter, deliveredAfter}
+use Rattle.retry_rules.specs.Calls.{SenderCall, offer, send, reply, tick, isReset, SenderEnd, ReceiverCall, arrival, damaged-arrival, Reply, ReceiverEnd}
+use Rattle.retry_rules.specs.Ledger.{Ledger, blank, waitsForReply, oldestNumber, senderAfter, ledgerAfter, receiverAfter, deliveredAfter}
 
 -- k is the number of one of the last eight of the first e segments
 abbrev pub Recent : ℕ → ℕ → Type 0
@@ -64,3 +64,28 @@ pub record TakesOffers (I : SenderEnd) : Type 0 where
       let a = I .tells (senderAfter I (I .fresh t s) cs) (offer (8 * l .size) channel bad n) in
       l .expiries < 3 → channel < 16 → 0 < n → n ≤ l .size
       → (l .accepted < l .released + 8 → a .refusal ≡ 0) × (l .accepted ≡ l .released + 8 → a .refusal ≡ 5)
+
+-- a sender by the segments that went out, were released and are stored: what a send tells next, with a long enough output
+pub record HearsByHistory (I : SenderEnd) : Type 0 where
+  -- the send point is never before the oldest nor past what is stored: each segment that goes out is a stored one
+  pub sends-stored :
+      (t s : ℕ) → timeAllowed t ≡ true → sizeAllowed s ≡ true → (cs : List SenderCall) (lent output : ℕ)
+      → let l = ledgerAfter I (I .fresh t s) (blank t s) cs in
+      let a = I .tells (senderAfter I (I .fresh t s) cs) (send lent output) in
+      a .sent ≡ true → (j : ℕ) × (l .released ≤ j) × (j < l .accepted) × (a .number ≡ j % 16)
+  -- while something is outstanding and the link is up: ACK of one of the last eight really released is ignored
+  pub ignores :
+      (t s : ℕ) → timeAllowed t ≡ true → sizeAllowed s ≡ true → (cs : List SenderCall) (k lent output : ℕ)
+      → let x = senderAfter I (I .fresh t s) cs in
+      let l = ledgerAfter I (I .fresh t s) (blank t s) cs in
+      l .expiries < 3 → waitsForReply l ≡ true → Recent (l .released) k
+      → I .tells (I .call x (reply false k)) (send lent output) ≡ I .tells x (send lent output)
+  -- any other ACK that is not of the oldest, and any NACK: the next to go is the oldest
+  pub goes-back :
+      (t s : ℕ) → timeAllowed t ≡ true → sizeAllowed s ≡ true → (cs : List SenderCall) (nack : Bool) (k output : ℕ)
+      → let x = senderAfter I (I .fresh t s) cs in
+      let l = ledgerAfter I (I .fresh t s) (blank t s) cs in
+      l .expiries < 3 → waitsForReply l ≡ true → k < 16 → l .size ≤ output
+      → (nack ≡ true) ⊎ ((k ≡ oldestNumber l → ⊥) × (Recent (l .released) k → ⊥))
+      → I .tells (I .call x (reply nack k)) (send (8 * l .size) output)
+      ≡ record { refusal = 0; sent = true; number = oldestNumber l; fell = false }
