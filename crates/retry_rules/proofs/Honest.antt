@@ -24,7 +24,7 @@ use Rattle.retry_rules.specs.Reply.{timerAt, heard, toOldest, restarted,
 use Rattle.retry_rules.specs.Tick.{expired, fallen, ticked, tickOf}
 use Rattle.retry_rules.specs.Fresh.{resetChecks, resetOf}
 use Rattle.retry_rules.specs.Refused.{refusedSender, refusedOffer, refusedSend, refusedTick}
-use Rattle.retry_rules.specs.Calls.{SenderCall, offer, send, reply, damaged-reply, tick, reset, Told, onlyRefusal, sendTells, tickTells, senderCalled, senderTells, ourSender}
+use Rattle.retry_rules.specs.Calls.{SenderCall, offer, send, reply, damaged-reply, tick, reset, Told, onlyRefusal, offerTells, sendTells, tickTells, senderCalled, senderTells, ourSender}
 use Rattle.retry_rules.specs.Ledger.{Ledger, blank, waitsForReply, oldestNumber, oneAccepted, oneOut, timed, entry, entered, senderAfter, ledgerAfter}
 use Rattle.retry_rules.proofs.Outcomes.{either-way}
 use Rattle.retry_rules.proofs.Rules.{Numbers}
@@ -158,7 +158,7 @@ module _ (s : Sender) (l : Ledger) (h : Honest s l) where
   unfolding offerOf sendOf replyOf damagedReplyOf tickOf resetOf
   agrees-after (offer lent channel bad n) =
       either-way (offerChecks s lent channel n)
-      (λ (a : Offered). Agrees (a .sender .counters) (entered l (offer lent channel bad n) (onlyRefusal (a .refusal)))) (refusedOffer s) _
+      (λ (a : Offered). Agrees (a .sender .counters) (entered l (offer lent channel bad n) (offerTells a))) (refusedOffer s) _
       (λ _. stored-agrees (s .counters) l (h .agrees)) (refused-same (offer lent channel bad n) (onlyRefusal _))
   agrees-after (send lent output) =
       let P : Sent → Type 0 = λ a. Agrees (a .sender .counters)

@@ -13,4 +13,5 @@ pub mod ReceiverHistory
 pub mod Honest
 pub mod OfferFull
 pub mod SenderHistory
+pub mod Wrong
 pub mod BenchRows

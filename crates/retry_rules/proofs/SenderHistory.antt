@@ -13,13 +13,14 @@ use Rattle.refusal.specs.Order.{Check, given, refusalOf}
 use Rattle.retry_rules.specs.declared.Counters.{Counters}
 use Rattle.retry_rules.specs.declared.Sender.{Sender}
 use Rattle.retry_rules.specs.declared.Answered.{Answered}
+use Rattle.retry_rules.specs.declared.Offered.{Offered}
 use Rattle.retry_rules.specs.declared.Sent.{Sent}
 use Rattle.retry_rules.specs.declared.Ticked.{Ticked}
 use Rattle.retry_rules.specs.Numbers.{sizeAllowed, timeAllowed, amongLast}
 use Rattle.retry_rules.specs.States.{isDown, senderRule}
 use Rattle.retry_rules.specs.Refused.{refusedSend, refusedTick}
 use Rattle.retry_rules.specs.Lent.{heldLength}
-use Rattle.retry_rules.specs.Offer.{offerChecks}
+use Rattle.retry_rules.specs.Offer.{offerChecks, nextNumber}
 use Rattle.retry_rules.specs.Send.{toSend, dueSlot, sendPoint, sendChecks, sendOf}
 use Rattle.retry_rules.specs.Reply.{heard, toOldest, restarted, senderChecks, replyChecks, withCounters, replyOf}
 use Rattle.retry_rules.specs.Tick.{ticked, tickOf}
@@ -30,10 +31,10 @@ use Rattle.retry_rules.proofs.Outcomes.{either-way}
 use Rattle.retry_rules.proofs.Rules.{Numbers, Holds}
 use Rattle.retry_rules.proofs.Steps.{heard-cases, ticked-cases}
 use Rattle.retry_rules.proofs.StoredSlots.{stored-slot}
-use Rattle.retry_rules.proofs.Seen.{Sound, sound, rule-holds, sender-seen, sender-passes, reply-passes, Offers, offer-passes, Sends, send-seen, send-passes}
+use Rattle.retry_rules.proofs.Seen.{Sound, sound, rule-holds, sender-seen, sender-passes, reply-passes, Offers, Sends, send-seen, send-passes}
 use Rattle.retry_rules.proofs.Kept.{reply-kept}
 use Rattle.retry_rules.proofs.Refusals.{offer-number, send-number, reply-number, damaged-reply-number, tick-number}
-use Rattle.retry_rules.proofs.Done.{send-done, reply-done, tick-done}
+use Rattle.retry_rules.proofs.Done.{offer-done, send-done, reply-done, tick-done}
 use Rattle.retry_rules.proofs.OfferFull.{full-five}
 use Rattle.retry_rules.proofs.LastEight.{last-eight, recent-not-next}
 use Rattle.retry_rules.proofs.Honest.{Agrees, Honest, wraps, honest-calls, honest-fresh}
@@ -117,21 +118,27 @@ counts-expiries =
 -- offers
 offer-takes :
     (s : Sender) (l : Ledger) → Honest s l → (channel : ℕ) (bad : Bool) (n : ℕ) → l .expiries < 3 → channel < 16 → 0 < n → n ≤ l .size
-    → (l .accepted < l .released + 8 → senderTells s (offer (8 * l .size) channel bad n) .refusal ≡ 0)
+    → (l .accepted < l .released + 8
+    → (senderTells s (offer (8 * l .size) channel bad n) .refusal ≡ 0) × (senderTells s (offer (8 * l .size) channel bad n) .number ≡ l .accepted % 16))
     × (l .accepted ≡ l .released + 8 → senderTells s (offer (8 * l .size) channel bad n) .refusal ≡ 5)
 offer-takes s l h channel bad n few low some most =
     let a = h .agrees in
     let u = is-sound s l h few in
     let lent : 8 * l .size ≡ 8 * s .counters .size = omega (arith, a .size) in
-    let most′ : n ≤ s .counters .size = omega (arith, a .size) in (
-      λ free. offer-number s (8 * l .size) channel bad n ∙ offer-passes s (8 * l .size) channel n (record {
-        sound = u;
-        buffers = lent;
-        channel-lt = low;
-        most = most′;
-        some = some;
-        free = omega (arith, a .stored);
-      }),
+    let most′ : n ≤ s .counters .size = omega (arith, a .size) in
+    let next : nextNumber (s .counters) ≡ l .accepted % 16 =
+    ap (λ (m : ℕ). (m + s .counters .stored) % 16) (a .oldest) ∙ wraps (l .released) (s .counters .stored)
+    ∙ ap (λ (m : ℕ). m % 16) (sym (a .stored)) in (
+      λ free.
+          let done = offer-done s (8 * l .size) channel bad n (record {
+            sound = u;
+            buffers = lent;
+            channel-lt = low;
+            most = most′;
+            some = some;
+            free = omega (arith, a .stored);
+          }) in
+          (ap (λ (x : Offered). x .refusal) done, ap (λ (x : Offered). x .number) done ∙ next),
       λ full. offer-number s (8 * l .size) channel bad n ∙ full-five s (8 * l .size) channel n (record {
         sound = u;
         buffers = lent;

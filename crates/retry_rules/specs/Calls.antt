@@ -4,6 +4,7 @@ use mathlib.Core.Bool.{Bool, true, false}
 use mathlib.Core.List.{List, [], _∷_}
 use Rattle.retry_rules.specs.declared.Sender.{Sender}
 use Rattle.retry_rules.specs.declared.Receiver.{Receiver}
+use Rattle.retry_rules.specs.declared.Offered.{Offered}
 use Rattle.retry_rules.specs.declared.Sent.{Sent}
 use Rattle.retry_rules.specs.declared.Ticked.{Ticked}
 use Rattle.retry_rules.specs.declared.Arrived.{Arrived}
@@ -31,7 +32,7 @@ isReset damaged-reply = false
 isReset tick = false
 isReset (reset t s) = true
 
--- what a sender tells: a refusal; of a send, whether a segment went out and its number; of a tick, whether the link went down
+-- what a sender tells: a refusal; of an offer, the segment's number; of a send, whether one went out and its number; of a tick, whether the link went down
 pub record Told : Type 0 where
   pub refusal : ℕ
   pub sent : Bool
@@ -58,6 +59,9 @@ senderCalled s damaged-reply = damagedReplyOf s .sender
 senderCalled s tick = tickOf s .sender
 senderCalled s (reset t size) = resetOf s t size .sender
 
+abbrev pub offerTells : Offered → Told
+offerTells a = record { refusal = a .refusal; sent = false; number = a .number; fell = false }
+
 abbrev pub sendTells : Sent → Told
 sendTells a = record { refusal = a .refusal; sent = a .sent; number = a .number; fell = false }
 
@@ -65,7 +69,7 @@ abbrev pub tickTells : Ticked → Told
 tickTells a = record { refusal = a .refusal; sent = false; number = 0; fell = a .fell }
 
 abbrev pub senderTells : Sender → SenderCall → Told
-senderTells s (offer lent channel bad n) = onlyRefusal (offerOf s lent channel bad n .refusal)
+senderTells s (offer lent channel bad n) = offerTells (offerOf s lent channel bad n)
 senderTells s (send lent output) = sendTells (sendOf s lent output)
 senderTells s (reply nack k) = onlyRefusal (replyOf s nack k .refusal)
 senderTells s damaged-reply = onlyRefusal (damagedReplyOf s .refusal)

@@ -56,14 +56,14 @@ pub record CountsExpiries (I : SenderEnd) : Type 0 where
       → ledgerAfter I (I .fresh t s) (blank t s) cs .expiries ≡ 3 → isReset c ≡ false
       → I .tells (senderAfter I (I .fresh t s) cs) c .refusal ≡ 7
 
--- while the link is up a good offer is accepted, unless eight are stored, and then it is refused with 5
+-- while the link is up a good offer is accepted, with the number after the last accepted one, unless eight are stored, and then it is refused with 5
 pub record TakesOffers (I : SenderEnd) : Type 0 where
   pub takes :
       (t s : ℕ) → timeAllowed t ≡ true → sizeAllowed s ≡ true → (cs : List SenderCall) (channel : ℕ) (bad : Bool) (n : ℕ)
       → let l = ledgerAfter I (I .fresh t s) (blank t s) cs in
       let a = I .tells (senderAfter I (I .fresh t s) cs) (offer (8 * l .size) channel bad n) in
       l .expiries < 3 → channel < 16 → 0 < n → n ≤ l .size
-      → (l .accepted < l .released + 8 → a .refusal ≡ 0) × (l .accepted ≡ l .released + 8 → a .refusal ≡ 5)
+      → (l .accepted < l .released + 8 → (a .refusal ≡ 0) × (a .number ≡ l .accepted % 16)) × (l .accepted ≡ l .released + 8 → a .refusal ≡ 5)
 
 -- a sender by the segments that went out, were released and are stored: what a send tells next, with a long enough output
 pub record HearsByHistory (I : SenderEnd) : Type 0 where

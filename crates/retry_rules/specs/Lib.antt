@@ -12,3 +12,4 @@ pub mod Bench
 pub mod Calls
 pub mod Ledger
 pub mod History
+pub mod Runs
