@@ -1,17 +1,17 @@
 -- What the eight buffers hold: an offer that is accepted stores its content in the free buffer and leaves that of every stored segment.
 -- Assumes nothing.
-use mathlib.Core.Path.{_≡_, refl, sym, _∙_, ap}
+use mathlib.Core.Path.{_≡_, _∙_, ap}
 use mathlib.Core.Bool.{Bool, false}
 use mathlib.Core.List.{List}
 use mathlib.Core.Logic.{_≢_}
-use Prim.Native.Nat.{ℕ, _+_, _*_, _%_, _≤_, _<_}
+use Prim.Native.Nat.{ℕ, _+_, _≤_, _<_}
 use native.Mathlib.Omega.{arith}
 use native.Mathlib.Decide.{decLt}
-use lib.ListN.{length, getD, take, drop, set}
+use lib.ListN.{length, take, drop}
 use lib.Seq.{getD-set-same, getD-set-other}
 use Rattle.retry_rules.specs.declared.Sender.{Sender}
 use Rattle.retry_rules.specs.States.{slotOf, Eight}
-use Rattle.retry_rules.specs.Lent.{laid, bufferAt, heldLength, heldBytes, Content, heldContent}
+use Rattle.retry_rules.specs.Lent.{laid, bufferAt, heldLength, heldBytes, heldContent}
 use Rattle.retry_rules.specs.Offer.{freeSlot, storedIn, offerOf, offerBuffers}
 use Rattle.retry_rules.proofs.Laid.{laid-same, laid-before, laid-after, buffers-apart}
 use Rattle.retry_rules.proofs.StoredSlots.{stored-slot}

@@ -1,22 +1,21 @@
 -- The sender's counters are what a host can write down from its calls and what it was told: after every list of calls from fresh.
 -- Assumes nothing.
 use mathlib.Core.Path.{_≡_, refl, sym, _∙_, ap, subst}
-use mathlib.Core.Bool.{Bool, true, false, cond, _&&_}
+use mathlib.Core.Bool.{Bool, true, false, cond}
 use mathlib.Core.List.{List, [], _∷_}
-use Prim.Native.Nat.{ℕ, _+_, _-_, _*_, _%_, _≤_, _<_, min, max}
+use Prim.Native.Nat.{ℕ, _+_, _-_, _%_, _≤_, _<_, min}
 use native.Mathlib.Omega.{arith}
 use native.Mathlib.Nat.{add-zero}
 use lib.Dec.{ltb, leb, eqb}
 use borrow.Author.Tests.{ltb-true, leb-true, eqb-true, eqb-false, ne-eqb, eq-eqb, lt-ltb, le-ltb}
 use Rattle.laws.proofs.Cases.{by-cases, by-both, cond-false, false-is-not-true, first-true, second-true}
-use Rattle.refusal.specs.Order.{refusalOf}
 use Rattle.retry_rules.specs.declared.Counters.{Counters}
 use Rattle.retry_rules.specs.declared.Sender.{Sender}
 use Rattle.retry_rules.specs.declared.Answered.{Answered}
 use Rattle.retry_rules.specs.declared.Offered.{Offered}
 use Rattle.retry_rules.specs.declared.Sent.{Sent}
 use Rattle.retry_rules.specs.declared.Ticked.{Ticked}
-use Rattle.retry_rules.specs.Numbers.{sizeAllowed, timeAllowed, amongLast}
+use Rattle.retry_rules.specs.Numbers.{sizeAllowed, timeAllowed}
 use Rattle.retry_rules.specs.States.{senderRule, Eight}
 use Rattle.retry_rules.specs.Offer.{oneStored, offerChecks, offerOf}
 use Rattle.retry_rules.specs.Send.{toSend, sendPoint, oneSent, sendChecks, sendOf}

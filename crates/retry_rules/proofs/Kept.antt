@@ -1,15 +1,13 @@
 -- Every fresh state keeps its rule, and every call hands back a state that keeps it where it was given one.
 -- Assumes nothing.
-use mathlib.Core.Path.{_≡_, refl, sym, _∙_, ap, subst}
-use mathlib.Core.Bool.{Bool, true, false, cond, _&&_}
-use Prim.Native.Nat.{ℕ, _+_, _-_, _*_, _%_, _≤_, _<_, min, max}
+use mathlib.Core.Path.{_≡_, refl, _∙_, ap}
+use mathlib.Core.Bool.{Bool, true}
+use Prim.Native.Nat.{ℕ}
 use native.Mathlib.Omega.{arith}
-use native.Mathlib.Nat.{add-zero}
-use lib.Dec.{ltb, eqb}
-use lib.ListN.{length-set, length-replicate}
-use borrow.Author.Tests.{ltb-true, ltb-false, eqb-true, eqb-false}
-use Rattle.laws.proofs.Cases.{by-cases, by-test, both-true, first-true, second-true}
-use Rattle.refusal.specs.Order.{refusalOf}
+use lib.Dec.{eqb}
+use lib.ListN.{length-set}
+use borrow.Author.Tests.{ltb-true}
+use Rattle.laws.proofs.Cases.{by-cases, both-true, first-true, second-true}
 use Rattle.retry_rules.specs.declared.Counters.{Counters}
 use Rattle.retry_rules.specs.declared.Sender.{Sender}
 use Rattle.retry_rules.specs.declared.Receiver.{Receiver}
@@ -20,7 +18,7 @@ use Rattle.retry_rules.specs.declared.Ticked.{Ticked}
 use Rattle.retry_rules.specs.declared.Begun.{Begun}
 use Rattle.retry_rules.specs.declared.Arrived.{Arrived}
 use Rattle.retry_rules.specs.Numbers.{sizeAllowed, countRule, amongLast}
-use Rattle.retry_rules.specs.States.{isDown, countersRule, slotOf, slotsRule, senderRule, receiverRule, Eight}
+use Rattle.retry_rules.specs.States.{countersRule, slotsRule, senderRule, receiverRule, Eight}
 use Rattle.retry_rules.specs.Refused.{refusedSender, refusedOffer, refusedSend, refusedTick, refusedReceiver, refusedArrival}
 use Rattle.retry_rules.specs.Fresh.{noSender, noReceiver, freshSender, freshReceiver, freshChecks, freshSenderOf, sizeChecks, freshReceiverOf, resetChecks, resetOf}
 use Rattle.retry_rules.specs.Offer.{offerChecks, oneStored, storedIn, offerOf}
@@ -30,10 +28,10 @@ use Rattle.retry_rules.specs.Tick.{expired, fallen, ticked, tickOf}
 use Rattle.retry_rules.specs.Arrival.{arrivalChecks, advanced, answerTo, arrivalOf, receiverChecks, damagedArrivalOf}
 use Rattle.retry_rules.specs.Calls.{SenderCall, offer, send, reply, damaged-reply, tick, reset, senderCalled}
 use Rattle.retry_rules.proofs.Outcomes.{either-way}
-use Rattle.retry_rules.proofs.Rules.{Counted, counted, count-kept, Numbers, Holds, holds, keeps}
+use Rattle.retry_rules.proofs.Rules.{counted, count-kept, Numbers, Holds, keeps}
 use Rattle.retry_rules.proofs.Steps.{heard-cases, ticked-cases}
 use Rattle.retry_rules.proofs.StoredSlots.{slots-kept, Later, later-kept, stored-kept}
-use Rattle.retry_rules.proofs.Seen.{Sound, sound-rule, sender-seen, reply-seen, Offers, offer-seen, send-seen, Begins, fresh-seen, reset-seen, size-seen}
+use Rattle.retry_rules.proofs.Seen.{Sound, sender-seen, reply-seen, Offers, offer-seen, send-seen, Begins, fresh-seen, reset-seen, size-seen}
 
 -- what the counters become keeps the rule of counters, and its stored segments are in the buffers where they were
 record Moves (s : Sender) (d : Counters) : Type 0 where

@@ -13,5 +13,6 @@ pub mod ReceiverHistory
 pub mod Honest
 pub mod OfferFull
 pub mod SenderHistory
+pub mod NoState
 pub mod Wrong
 pub mod BenchRows

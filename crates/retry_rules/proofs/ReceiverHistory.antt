@@ -3,19 +3,18 @@
 use mathlib.Core.Path.{_≡_, refl, sym, _∙_, ap, subst}
 use mathlib.Core.Bool.{Bool, true, false, cond}
 use mathlib.Core.List.{List, [], _∷_}
-use Prim.Native.Nat.{ℕ, _+_, _%_, _≤_, _<_, min}
+use Prim.Native.Nat.{ℕ, _+_, _%_, _<_, min}
 use native.Mathlib.Omega.{arith}
 use lib.Dec.{eqb}
-use borrow.Author.Tests.{eqb-true, eqb-false, eq-eqb, ne-eqb}
-use Rattle.laws.proofs.Cases.{by-cases, by-test, both-true, false-is-not-true}
-use Rattle.refusal.specs.Order.{refusalOf}
+use borrow.Author.Tests.{eqb-true, eqb-false}
+use Rattle.laws.proofs.Cases.{by-cases, both-true, false-is-not-true}
 use Rattle.retry_rules.specs.declared.Receiver.{Receiver}
 use Rattle.retry_rules.specs.declared.Arrived.{Arrived}
 use Rattle.retry_rules.specs.Numbers.{sizeAllowed, countRule, amongLast}
 use Rattle.retry_rules.specs.States.{receiverRule}
 use Rattle.retry_rules.specs.Refused.{refusedArrival}
-use Rattle.retry_rules.specs.Arrival.{arrivalChecks, answerTo, nackOf, delivery, undelivered, arrivalOf, receiverChecks, damagedArrivalOf}
-use Rattle.retry_rules.specs.Calls.{ReceiverCall, arrival, damaged-arrival, Reply, ReceiverEnd, receiverAnswer, receiverTells, ourReceiver}
+use Rattle.retry_rules.specs.Arrival.{arrivalChecks, answerTo, arrivalOf, receiverChecks, damagedArrivalOf}
+use Rattle.retry_rules.specs.Calls.{ReceiverCall, arrival, damaged-arrival, receiverAnswer, receiverTells, ourReceiver}
 use Rattle.retry_rules.specs.Ledger.{receiverAfter, deliveredAfter}
 use Rattle.retry_rules.specs.History.{Recent, ByHistory, JudgesByHistory}
 use Rattle.retry_rules.proofs.Outcomes.{either-way}

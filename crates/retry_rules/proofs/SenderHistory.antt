@@ -1,14 +1,13 @@
 -- The sender counts expiries since the last clearing, takes each good offer while a buffer is free, and hears replies by what it really released.
 -- Assumes nothing.
 use mathlib.Core.Path.{_≡_, refl, sym, _∙_, ap, subst}
-use mathlib.Core.Bool.{Bool, true, false, cond, not, _&&_}
-use mathlib.Core.List.{List, [], _∷_}
+use mathlib.Core.Bool.{Bool, true, false}
+use mathlib.Core.List.{List}
 use mathlib.Core.Logic.{_↔_, _⊎_, inl, inr, ⊎-elim}
-use Prim.Native.Nat.{ℕ, _+_, _-_, _*_, _%_, _≤_, _<_, min}
+use Prim.Native.Nat.{ℕ, _+_, _*_, _%_, _≤_, _<_, min}
 use native.Mathlib.Omega.{arith}
-use lib.Dec.{ltb, eqb}
 use borrow.Author.Tests.{ltb-true, lt-ltb, eqb-true, eq-eqb, ne-eqb}
-use Rattle.laws.proofs.Cases.{by-cases, by-test, cond-true, false-is-not-true}
+use Rattle.laws.proofs.Cases.{by-cases, cond-true, false-is-not-true}
 use Rattle.refusal.specs.Order.{Check, given, refusalOf}
 use Rattle.retry_rules.specs.declared.Counters.{Counters}
 use Rattle.retry_rules.specs.declared.Sender.{Sender}
@@ -18,26 +17,24 @@ use Rattle.retry_rules.specs.declared.Sent.{Sent}
 use Rattle.retry_rules.specs.declared.Ticked.{Ticked}
 use Rattle.retry_rules.specs.Numbers.{sizeAllowed, timeAllowed, amongLast}
 use Rattle.retry_rules.specs.States.{isDown, senderRule}
-use Rattle.retry_rules.specs.Refused.{refusedSend, refusedTick}
-use Rattle.retry_rules.specs.Lent.{heldLength}
+use Rattle.retry_rules.specs.Refused.{refusedSend}
 use Rattle.retry_rules.specs.Offer.{offerChecks, nextNumber}
-use Rattle.retry_rules.specs.Send.{toSend, dueSlot, sendPoint, sendChecks, sendOf}
+use Rattle.retry_rules.specs.Send.{toSend, sendPoint, sendChecks, sendOf}
 use Rattle.retry_rules.specs.Reply.{heard, toOldest, restarted, senderChecks, replyChecks, withCounters, replyOf}
-use Rattle.retry_rules.specs.Tick.{ticked, tickOf}
-use Rattle.retry_rules.specs.Calls.{SenderCall, offer, send, reply, damaged-reply, tick, reset, isReset, senderTells, sendTells, tickTells, ourSender}
+use Rattle.retry_rules.specs.Tick.{ticked}
+use Rattle.retry_rules.specs.Calls.{SenderCall, offer, send, reply, damaged-reply, tick, reset, isReset, senderTells, sendTells, ourSender}
 use Rattle.retry_rules.specs.Ledger.{Ledger, blank, waitsForReply, oldestNumber, senderAfter, ledgerAfter}
 use Rattle.retry_rules.specs.History.{Recent, Due, CountsExpiries, TakesOffers, HearsByHistory}
 use Rattle.retry_rules.proofs.Outcomes.{either-way}
-use Rattle.retry_rules.proofs.Rules.{Numbers, Holds}
 use Rattle.retry_rules.proofs.Steps.{heard-cases, ticked-cases}
 use Rattle.retry_rules.proofs.StoredSlots.{stored-slot}
-use Rattle.retry_rules.proofs.Seen.{Sound, sound, rule-holds, sender-seen, sender-passes, reply-passes, Offers, Sends, send-seen, send-passes}
+use Rattle.retry_rules.proofs.Seen.{Sound, sound, rule-holds, sender-seen, Sends}
 use Rattle.retry_rules.proofs.Kept.{reply-kept}
 use Rattle.retry_rules.proofs.Refusals.{offer-number, send-number, reply-number, damaged-reply-number, tick-number}
 use Rattle.retry_rules.proofs.Done.{offer-done, send-done, reply-done, tick-done}
 use Rattle.retry_rules.proofs.OfferFull.{full-five}
 use Rattle.retry_rules.proofs.LastEight.{last-eight, recent-not-next}
-use Rattle.retry_rules.proofs.Honest.{Agrees, Honest, wraps, honest-calls, honest-fresh}
+use Rattle.retry_rules.proofs.Honest.{Honest, wraps, honest-calls, honest-fresh}
 
 -- after any list of calls from fresh
 from-fresh :
@@ -115,6 +112,9 @@ counts-expiries =
       down = λ t s p q cs c three z. down-refuses _ c (is-down _ _ (from-fresh t s p q cs) three) z;
     }
 
+next-differs : (n : ℕ) → (n + 1) % 16 ≡ n → ⊥
+next-differs n e = omega arith
+
 -- offers
 offer-takes :
     (s : Sender) (l : Ledger) → Honest s l → (channel : ℕ) (bad : Bool) (n : ℕ) → l .expiries < 3 → channel < 16 → 0 < n → n ≤ l .size
@@ -185,6 +185,11 @@ module _ (s : Sender) (l : Ledger) (h : Honest s l) where
       (λ _ z _. absurd (false-is-not-true z)) (λ _ z _. absurd (false-is-not-true z))
       (λ _ _ p. absurd (not-oldest p)) (λ _ _ _ _. refl) (λ _ _ _ z. absurd (false-is-not-true (sym z ∙ among))))
 
+  by-history : (k : ℕ) → amongLast (s .counters .released) (s .counters .oldest) k ≡ true → amongLast (min (l .released) 8) (l .released % 16) k ≡ true
+  by-history k z =
+      subst (λ (m : ℕ). amongLast (min (l .released) 8) m k ≡ true) (h .agrees .oldest)
+      (subst (λ (m : ℕ). amongLast m (s .counters .oldest) k ≡ true) (h .agrees .released) z)
+
   -- any NACK, and any other ACK that is not of the oldest
   point-back :
       (nack : Bool) (k : ℕ) → waitsForReply l ≡ true → k < 16
@@ -194,8 +199,7 @@ module _ (s : Sender) (l : Ledger) (h : Honest s l) where
       let a = h .agrees in
       let some = waits-some s l h w in
       let none : amongLast (s .counters .released) (s .counters .oldest) k ≡ true → Recent (l .released) k = λ z.
-      last-eight (l .released) k lt .0 (subst (λ (m : ℕ). amongLast (min (l .released) 8) m k ≡ true) (a .oldest)
-      (subst (λ (m : ℕ). amongLast m (s .counters .oldest) k ≡ true) (a .released) z)) in
+      last-eight (l .released) k lt .0 (by-history k z) in
       let ack : nack ≡ false → (k ≡ oldestNumber l → ⊥) × (Recent (l .released) k → ⊥) = λ z.
       ⊎-elim (λ y. absurd (false-is-not-true (sym z ∙ y))) (λ y. y) why in
       heard-cases
@@ -248,3 +252,26 @@ hears-by-history =
           ap (λ (x : Sender). senderTells x (send lent output)) (ignored _ _ (from-fresh t s p q cs) k few w r);
       goes-back = λ t s p q cs. goes-back-to _ _ (from-fresh t s p q cs);
     }
+
+-- after o releases, with something outstanding and the send point past the oldest, an ACK is ignored exactly if it is of one of the last eight
+-- really released. (With the send point at the oldest, moving it there changes nothing either.)
+pub ignored-exactly :
+    (t size : ℕ) → timeAllowed t ≡ true → sizeAllowed size ≡ true → (cs : List SenderCall) (k : ℕ)
+    → let s = senderAfter ourSender (ourSender .fresh t size) cs in
+    let l = ledgerAfter ourSender (ourSender .fresh t size) (blank t size) cs in
+    l .expiries < 3 → waitsForReply l ≡ true → 0 < s .counters .point → k < 16
+    → (replyOf s false k .sender ≡ s) ↔ Recent (l .released) k
+ignored-exactly t size p q cs k few w past lt =
+    let s = senderAfter ourSender (ourSender .fresh t size) cs in
+    let l = ledgerAfter ourSender (ourSender .fresh t size) (blank t size) cs in
+    let h = from-fresh t size p q cs in
+    let some = waits-some s l h w in
+    let done = ap (λ (x : Answered). x .sender .counters) (reply-done s false k (record { sound = is-sound s l h few; number-lt = lt })) in (
+      λ e.
+          heard-cases (λ (d : Counters). d ≡ s .counters → Recent (l .released) k) (s .counters) false k (λ z _. absurd (omega arith))
+          (λ _ z _ _. absurd (false-is-not-true z)) (λ _ z _ _. absurd (false-is-not-true z))
+          (λ _ _ _ y. absurd (next-differs (s .counters .oldest) (ap (λ (d : Counters). d .oldest) y)))
+          (λ _ _ _ z _. last-eight (l .released) k lt .0 (by-history s l h k z))
+          (λ _ _ _ _ y. absurd (omega (arith, ap (λ (d : Counters). d .point) y))) (sym done ∙ ap (λ (x : Sender). x .counters) e),
+      ignored s l h k few w,
+    )

@@ -1,12 +1,12 @@
 -- Wrong ends, each ten lines over the right ones, and that the rules about the past refuse them.
 -- Assumes nothing.
-use mathlib.Core.Path.{_≡_, refl, sym, ap}
-use mathlib.Core.Bool.{Bool, true, false, cond, _&&_}
+use mathlib.Core.Path.{_≡_, refl, ap}
+use mathlib.Core.Bool.{Bool, true, false, cond}
 use mathlib.Core.List.{List, [], _∷_}
-use mathlib.Core.Logic.{inl, inr}
-use Prim.Native.Nat.{ℕ, zero, suc, _+_, _-_, _*_, _%_, _≤_, _<_}
+use mathlib.Core.Logic.{inr}
+use Prim.Native.Nat.{ℕ, zero, suc, _-_}
 use native.Mathlib.Omega.{arith}
-use lib.Dec.{ltb, eqb}
+use lib.Dec.{ltb}
 use Rattle.laws.proofs.Cases.{false-is-not-true}
 use Rattle.retry_rules.specs.declared.Sender.{Sender}
 use Rattle.retry_rules.specs.declared.Receiver.{Receiver}
@@ -15,12 +15,12 @@ use Rattle.retry_rules.specs.States.{linkRule, timerRule, windowRule, co
 use Rattle.retry_rules.specs.Fresh.{freshChecks, freshSenderOf, sizeChecks, freshReceiverOf, resetOf}
 use Rattle.retry_rules.specs.Offer.{offerChecks, offerOf}
 use Rattle.retry_rules.specs.Send.{sendChecks, sendOf}
-use Rattle.retry_rules.specs.Reply.{toOldest, acked, nacked, heard, senderChecks, replyChecks, withCounters, replyOf, damagedReplyOf}
+use Rattle.retry_rules.specs.Reply.{toOldest, acked, nacked, heard, senderChecks, replyChecks, withCounters, replyOf}
 use Rattle.retry_rules.specs.Tick.{ticked, tickOf}
-use Rattle.retry_rules.specs.Arrival.{arrivalChecks, answerTo, arrivalOf, damagedArrivalOf}
+use Rattle.retry_rules.specs.Arrival.{arrivalChecks, answerTo, arrivalOf}
 use Rattle.retry_rules.specs.Calls.{SenderCall, offer, send, reply, damaged-reply, tick, reset, Told, onlyRefusal, SenderEnd, senderTells, ourSender, ReceiverCall, arrival, damaged-arrival, Reply, ReceiverEnd, ourReceiver}
-use Rattle.retry_rules.specs.Ledger.{Ledger, senderAfter, ledgerAfter, receiverAfter, deliveredAfter}
-use Rattle.retry_rules.specs.History.{Recent, ByHistory, JudgesByHistory, CountsExpiries, TakesOffers, HearsByHistory}
+use Rattle.retry_rules.specs.Ledger.{senderAfter, ledgerAfter, receiverAfter, deliveredAfter}
+use Rattle.retry_rules.specs.History.{JudgesByHistory, CountsExpiries, TakesOffers, HearsByHistory}
 
 -- our receiver, with other replies to a valid segment
 answering : (Receiver → ℕ → Reply → Reply) → ReceiverEnd

@@ -1,7 +1,6 @@
 -- The calls of each end, and an end as anything that answers them: what crosses the interface, and nothing else.
 use Prim.Native.Nat.{ℕ}
 use mathlib.Core.Bool.{Bool, true, false}
-use mathlib.Core.List.{List, [], _∷_}
 use Rattle.retry_rules.specs.declared.Sender.{Sender}
 use Rattle.retry_rules.specs.declared.Receiver.{Receiver}
 use Rattle.retry_rules.specs.declared.Offered.{Offered}

@@ -1,6 +1,6 @@
 -- Further runs of the public definitions from fresh ends, one for a rule that people get wrong.
 use mathlib.Core.Path.{_≡_}
-use mathlib.Core.Bool.{Bool, true, false}
+use mathlib.Core.Bool.{true, false}
 use Prim.Native.Nat.{ℕ, zero, suc}
 use Rattle.retry_rules.specs.declared.Sender.{Sender}
 use Rattle.retry_rules.specs.Refused.{refusedOffer, refusedSend, refusedTick, refusedArrival}
