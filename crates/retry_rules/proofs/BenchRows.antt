@@ -4,11 +4,12 @@ use mathlib.Core.Path.{refl}
 use Rattle.retry_rules.specs.Numbers.{sizeAllowed, amongLast, countRule}
 use Rattle.retry_rules.specs.States.{linkRule, timerRule, windowRule, countersRule, slotRule, slotsRule, senderRule, receiverRule}
 use Rattle.retry_rules.specs.Fresh.{freshSenderOf, freshReceiverOf, freshChecks, sizeChecks, resetChecks, resetOf}
-use Rattle.retry_rules.specs.Offer.{offerChecks, offerOf}
-use Rattle.retry_rules.specs.Send.{sendChecks, sendOf}
+use Rattle.retry_rules.specs.Lent.{laid, heldBytes}
+use Rattle.retry_rules.specs.Offer.{offerChecks, offerOf, offerBuffers}
+use Rattle.retry_rules.specs.Send.{sendChecks, sendOf, sendOutput}
 use Rattle.retry_rules.specs.Reply.{acked, nacked, heard, senderChecks, replyChecks, replyOf}
 use Rattle.retry_rules.specs.Tick.{ticked, tickOf}
-use Rattle.retry_rules.specs.Arrival.{arrivalChecks, answerTo, arrivalOf, receiverChecks, damagedArrivalOf}
+use Rattle.retry_rules.specs.Arrival.{arrivalChecks, answerTo, arrivalOf, arrivalOutput, receiverChecks, damagedArrivalOf}
 use Rattle.retry_rules.specs.Bench.{Rows}
 use Rattle.retry_rules.specs.Runs.{Runs}
 
@@ -32,7 +33,7 @@ rows =
     }
 
 pub runs : Runs
-unfolding sizeAllowed amongLast countRule linkRule timerRule windowRule countersRule slotRule slotsRule senderRule receiverRule freshChecks freshSenderOf resetChecks resetOf sizeChecks freshReceiverOf offerChecks offerOf sendChecks sendOf acked nacked heard senderChecks replyChecks replyOf ticked tickOf arrivalChecks answerTo arrivalOf receiverChecks damagedArrivalOf
+unfolding sizeAllowed amongLast countRule linkRule timerRule windowRule countersRule slotRule slotsRule senderRule receiverRule freshChecks freshSenderOf resetChecks resetOf sizeChecks freshReceiverOf offerChecks offerOf sendChecks sendOf acked nacked heard senderChecks replyChecks replyOf ticked tickOf arrivalChecks answerTo arrivalOf arrivalOutput receiverChecks damagedArrivalOf laid heldBytes offerBuffers sendOutput
 runs =
     record {
       nack-clears = refl;
@@ -50,5 +51,9 @@ runs =
       repeated-no-room = refl;
       short = refl;
       exact = refl;
+      both-stored = (refl, refl);
+      second-sent = refl;
+      delivered = refl;
+      not-delivered = refl;
       zeros = (refl, refl, refl, refl);
     }

@@ -1,14 +1,16 @@
 -- Further runs of the public definitions from fresh ends, one for a rule that people get wrong.
 use mathlib.Core.Path.{_≡_}
 use mathlib.Core.Bool.{true, false}
+use mathlib.Core.List.{List, [], _∷_}
 use Prim.Native.Nat.{ℕ, zero, suc}
+use lib.ListN.{take, drop, replicate}
 use Rattle.retry_rules.specs.declared.Sender.{Sender}
 use Rattle.retry_rules.specs.Refused.{refusedOffer, refusedSend, refusedTick, refusedArrival}
 use Rattle.retry_rules.specs.Fresh.{freshSenderOf, freshSender, noSender, noReceiver, resetOf}
-use Rattle.retry_rules.specs.Offer.{offerOf}
-use Rattle.retry_rules.specs.Send.{sendOf}
+use Rattle.retry_rules.specs.Offer.{offerOf, offerBuffers}
+use Rattle.retry_rules.specs.Send.{sendOf, sendOutput}
 use Rattle.retry_rules.specs.Tick.{tickOf}
-use Rattle.retry_rules.specs.Arrival.{undelivered, arrivalOf, damagedArrivalOf}
+use Rattle.retry_rules.specs.Arrival.{undelivered, arrivalOf, arrivalOutput, damagedArrivalOf}
 use Rattle.retry_rules.specs.Bench.{arrives, received, offered, sent, hears}
 
 -- a sender with S = 8 and this T that has one segment, sent once
@@ -22,6 +24,10 @@ ticks (suc n) s = tickOf (ticks n s) .sender
 -- with T = 1, two expiries with the segment sent again after the second
 abbrev pub lastChance : Sender
 lastChance = sent 1 (ticks 2 (started 1))
+
+-- the eight buffers after two offers of two bytes
+abbrev pub twoStored : List ℕ
+twoStored = offerBuffers (offered 1) (offerBuffers (offered 0) (replicate 64 0) 3 (1 ∷ 2 ∷ [])) 3 (3 ∷ 4 ∷ [])
 
 pub record Runs : Type 0 where
   -- a NACK of the oldest's number clears the expiry count and restarts the timer; one of another number does neither
@@ -49,6 +55,11 @@ pub record Runs : Type 0 where
   -- an output one byte short is refused, and exactly long enough is not
   pub short : arrivalOf (received 3) 3 3 false 2 true 1 ≡ refusedArrival (received 3) 6
   pub exact : arrivalOf (received 3) 3 3 false 2 true 2 ≡ arrives (received 3) 3
+  -- a second offer leaves the bytes of the first; a send hands out those at the send point; an arrival those that came. The rest is as it stood
+  pub both-stored : (take 2 twoStored ≡ 1 ∷ 2 ∷ []) × (take 2 (drop 8 twoStored) ≡ 3 ∷ 4 ∷ [])
+  pub second-sent : sendOutput (sent 1 (offered 2)) twoStored (7 ∷ 8 ∷ 9 ∷ []) ≡ 3 ∷ 4 ∷ 9 ∷ []
+  pub delivered : arrivalOutput (received 3) 3 3 (1 ∷ 2 ∷ []) true (7 ∷ 8 ∷ 9 ∷ []) ≡ 1 ∷ 2 ∷ 9 ∷ []
+  pub not-delivered : arrivalOutput (received 3) 2 3 (1 ∷ 2 ∷ []) true (7 ∷ 8 ∷ 9 ∷ []) ≡ 7 ∷ 8 ∷ 9 ∷ []
   -- all zeros is no state: 1, and not 7
   pub zeros :
       (offerOf noSender 0 3 false 2 ≡ refusedOffer noSender 1) × (sendOf noSender 0 8 ≡ refusedSend noSender 1)
