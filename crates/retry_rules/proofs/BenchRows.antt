@@ -36,6 +36,7 @@ pub runs : Runs
 unfolding sizeAllowed amongLast countRule linkRule timerRule windowRule countersRule slotRule slotsRule senderRule receiverRule freshChecks freshSenderOf resetChecks resetOf sizeChecks freshReceiverOf offerChecks offerOf sendChecks sendOf acked nacked heard senderChecks replyChecks replyOf ticked tickOf arrivalChecks answerTo arrivalOf arrivalOutput receiverChecks damagedArrivalOf laid heldBytes offerBuffers sendOutput
 runs =
     record {
+      third-offered = refl;
       nack-clears = refl;
       nack-restarts = refl;
       other-nack = refl;

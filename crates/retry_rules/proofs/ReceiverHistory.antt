@@ -19,7 +19,8 @@ use Rattle.retry_rules.specs.Ledger.{receiverAfter, deliveredAfter}
 use Rattle.retry_rules.specs.History.{Recent, ByHistory, JudgesByHistory}
 use Rattle.retry_rules.proofs.Outcomes.{either-way}
 use Rattle.retry_rules.proofs.Rules.{count-kept}
-use Rattle.retry_rules.proofs.Seen.{arrival-seen}
+use Rattle.retry_rules.proofs.Seen.{arrival-seen, arrival-passes}
+use Rattle.retry_rules.proofs.Refusals.{arrival-number}
 use Rattle.retry_rules.proofs.Done.{fresh-receiver-done, damaged-arrival-done}
 use Rattle.retry_rules.proofs.LastEight.{last-eight, recent-not-next}
 
@@ -132,6 +133,17 @@ receiver-judges =
           (λ (a : Arrived). a .refusal ≡ 0 → ByHistory e k room (receiverTells a)) (refusedArrival r) _
           (λ p _. judged s e r k channel bad n room (arrival-seen r k channel n room output p .number-lt) d)
           (λ p z. absurd (p z));
+      takes = λ s q cs k channel bad n room output h₁ h₂ h₃ h₄ h₅.
+          let r = receiverAfter ourReceiver (ourReceiver .fresh s) cs in
+          let d = from-fresh s q cs in
+          arrival-number r k channel bad n room output ∙ arrival-passes r k channel n room output (record {
+            rule = delivered-rule s _ r q d;
+            number-lt = h₁;
+            channel-lt = h₂;
+            most = omega (arith, d .size);
+            some = h₃;
+            long = λ _. h₅;
+          });
       damaged = λ s q cs.
           let r = receiverAfter ourReceiver (ourReceiver .fresh s) cs in
           let d = from-fresh s q cs in

@@ -30,6 +30,11 @@ pub record JudgesByHistory (I : ReceiverEnd) : Type 0 where
       → let r = receiverAfter I (I .fresh s) cs in
       let a = I .tells r (arrival k channel bad n room output) in
       a .refusal ≡ 0 → ByHistory (deliveredAfter I (I .fresh s) 0 cs) k room a
+  -- a good one, with a long enough output, is not refused
+  pub takes :
+      (s : ℕ) → sizeAllowed s ≡ true → (cs : List ReceiverCall) (k channel : ℕ) (bad : Bool) (n : ℕ) (room : Bool) (output : ℕ)
+      → k < 16 → channel < 16 → 0 < n → n ≤ s → n ≤ output
+      → I .tells (receiverAfter I (I .fresh s) cs) (arrival k channel bad n room output) .refusal ≡ 0
   -- a damaged one brings a NACK with the expected number
   pub damaged :
       (s : ℕ) → sizeAllowed s ≡ true → (cs : List ReceiverCall)

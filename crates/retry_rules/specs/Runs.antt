@@ -30,6 +30,8 @@ abbrev pub twoStored : List ℕ
 twoStored = offerBuffers (offered 1) (offerBuffers (offered 0) (replicate 64 0) 3 (1 ∷ 2 ∷ [])) 3 (3 ∷ 4 ∷ [])
 
 pub record Runs : Type 0 where
+  -- an accepted offer answers with its segment number
+  pub third-offered : offerOf (sent 1 (offered 2)) 64 3 false 2 .number ≡ 2
   -- a NACK of the oldest's number clears the expiry count and restarts the timer; one of another number does neither
   pub nack-clears : hears true 0 (ticks 1 (started 1)) .counters .expiries ≡ 0
   pub nack-restarts : hears true 0 (ticks 1 (started 3)) .counters .timer ≡ 3
