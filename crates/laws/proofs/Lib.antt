@@ -1,3 +1,5 @@
 pub mod Bools
 pub mod Table
 pub mod Scan
+pub mod Cases
+pub mod Listed
