@@ -15,7 +15,8 @@ use Rattle.retry_rules.specs.States.{receiverRule}
 use Rattle.retry_rules.specs.Numbers.{between, amongLast}
 use Rattle.retry_rules.specs.Arrival.{advanced}
 use Rattle.retry_rules.proofs.Kept.{arrival-kept}
-use Rattle.delivery_rules.specs.Model.{Content, Item, segment, damaged, Reply, ack, nack, Arriving, Seen, World, arrived, arrives}
+use Rattle.retry_rules.specs.Lent.{Content}
+use Rattle.delivery_rules.specs.Model.{Item, segment, damaged, Reply, ack, nack, Arriving, Seen, World, arrived, arrives}
 use Rattle.delivery_rules.specs.Demand.{noContent}
 use Rattle.delivery_rules.specs.Ours.{arriving, ours}
 use Rattle.delivery_rules.proofs.Round.{near-is, among-is}

@@ -6,7 +6,8 @@ use mathlib.Core.List.{List, [], _∷_}
 use Prim.Native.Nat.{ℕ, _+_, _*_, _%_, _≤_, _<_}
 use native.Mathlib.Omega.{arith}
 use lib.Dec.{eqb, ltb}
-use lib.ListN.{length, getD, take}
+use lib.ListN.{length, getD, take, drop}
+use lib.Seq.{take-at}
 use borrow.Author.Tests.{eqb-true, eqb-false, ltb-true, eq-eqb, ne-eqb}
 use Rattle.laws.proofs.Cases.{by-cases, both-true, false-is-not-true}
 use Rattle.refusal.specs.Order.{refusalOf}
@@ -21,7 +22,7 @@ use Rattle.retry_rules.specs.declared.Ticked.{Ticked}
 use Rattle.retry_rules.specs.declared.Arrived.{Arrived}
 use Rattle.retry_rules.specs.Numbers.{amongLast}
 use Rattle.retry_rules.specs.States.{isDown, receiverRule}
-use Rattle.retry_rules.specs.Lent.{laid, bufferAt, heldLength, heldBytes}
+use Rattle.retry_rules.specs.Lent.{Content, laid, bufferAt, heldLength, heldBytes, heldContent}
 use Rattle.retry_rules.specs.Refused.{refusedSender, refusedOffer, refusedSend, refusedTick, refusedArrival}
 use Rattle.retry_rules.specs.Offer.{offerChecks, freeSlot, storedIn, offerOf, offerBuffers}
 use Rattle.retry_rules.specs.Send.{toSend, dueSlot, sendPoint, sendChecks, oneSent, dueSent, nothingSent, sendOf, sendOutput}
@@ -29,21 +30,27 @@ use Rattle.retry_rules.specs.Reply.{heard, senderChecks, replyChecks, withCount
 use Rattle.retry_rules.specs.Tick.{ticked, tickOf}
 use Rattle.retry_rules.specs.Arrival.{wanted, arrivalChecks, advanced, undelivered, nackOf, delivery, answerTo, arrivalOf, arrivalOutput, receiverChecks, damagedArrivalOf}
 use Rattle.retry_rules.proofs.StoredSlots.{stored-slot}
+use Rattle.retry_rules.proofs.Laid.{laid-first}
+use Rattle.retry_rules.proofs.Held.{held-length}
+use Rattle.retry_rules.proofs.Done.{reply-done, tick-done, damaged-arrival-done}
 use Rattle.retry_rules.proofs.Seen.{Sound, sender-seen, sender-passes, Hears, reply-seen, reply-passes, Offers, offer-seen, offer-passes, Sends, send-seen, Arrives, arrival-seen, receiver-passes}
-use Rattle.delivery_rules.specs.Model.{Content, Item, segment, damaged, Reply, ack, nack, damaged-reply, Offering, Sending, Arriving}
+use Rattle.delivery_rules.specs.Model.{Item, segment, damaged, Reply, ack, nack, damaged-reply, Offering, Sending, Arriving}
 use Rattle.delivery_rules.specs.Demand.{noContent}
 use Rattle.delivery_rules.specs.Ours.{offeringOf, sendingOf, arrivingOf, hearing, arriving, ours}
-use Rattle.delivery_rules.proofs.Buffers.{holding, laid-front, held-length}
 
 true-is-not-false : {b : Bool} → b ≡ false → b ≡ true → ⊥
 true-is-not-false p q = false-is-not-true (sym p ∙ q)
 
+-- what is laid at the front of an output stands there
+laid-front : (old bytes : List ℕ) → take (length bytes) (laid old 0 bytes) ≡ bytes
+laid-front old bytes = ap (take (length bytes)) (laid-first old bytes) ∙ take-at bytes (drop (length bytes) old) (length bytes) refl
+
 -- two things that turn on one test
-by-both :
+by-one :
     {A B : Type 0} (P : A → B → Type 0) (b : Bool) {x y : A} {u v : B} → (b ≡ true → P x u) → (b ≡ false → P y v)
     → P (cond b x y) (cond b u v)
-by-both P true f g = f refl
-by-both P false f g = g refl
+by-one P true f g = f refl
+by-one P false f g = g refl
 
 -- an offer
 abbrev pub taken : Sender → List ℕ → Content → Offering Sender
@@ -65,7 +72,7 @@ pub offer-either :
 unfolding offerOf offerBuffers
 offer-either s buffers x P f g =
     let cs = offerChecks s (length buffers) (x .channel) (length (x .bytes)) in
-    by-both (λ (a : Offered) (l : List ℕ). P (offeringOf a l)) (eqb (refusalOf cs) 0)
+    by-one (λ (a : Offered) (l : List ℕ). P (offeringOf a l)) (eqb (refusalOf cs) 0)
     (λ t. f (offer-seen s (length buffers) (x .channel) (length (x .bytes)) (eqb-true (refusalOf cs) 0 t)))
     (λ t. subst (λ (b : Bool). P (record { accepted = b; state = s; buffers = buffers })) (sym t)
     (g (λ o. eqb-false (refusalOf cs) 0 t (offer-passes s (length buffers) (x .channel) (length (x .bytes)) o))))
@@ -76,7 +83,7 @@ goes s buffers =
     record {
       sent = true;
       number = sendPoint (s .counters);
-      content = holding s buffers (dueSlot (s .counters));
+      content = heldContent s buffers (dueSlot (s .counters));
       state = record { counters = oneSent (s .counters); slots = s .slots };
     }
 
@@ -88,6 +95,7 @@ goes-out :
     (s : Sender) (buffers output : List ℕ) (P : Sending Sender → Type 0) → Sends s (length buffers) (length output)
     → toSend (s .counters) ≡ true → P (goes s buffers)
     → P (sendingOf (dueSent s) (laid output 0 (heldBytes s buffers (dueSlot (s .counters)))))
+unfolding heldContent
 goes-out s buffers output P o t p =
     let c = s .counters in
     let i = dueSlot c in
@@ -115,10 +123,10 @@ pub send-either :
 unfolding sendOf sendOutput
 send-either s buffers output P f g =
     let cs = sendChecks s (length buffers) (length output) in
-    by-both (λ (a : Sent) (l : List ℕ). P (sendingOf a l)) (eqb (refusalOf cs) 0)
+    by-one (λ (a : Sent) (l : List ℕ). P (sendingOf a l)) (eqb (refusalOf cs) 0)
     (λ t.
     let q = eqb-true (refusalOf cs) 0 t in
-    by-both (λ (a : Sent) (l : List ℕ). P (sendingOf a l)) (toSend (s .counters))
+    by-one (λ (a : Sent) (l : List ℕ). P (sendingOf a l)) (toSend (s .counters))
     (λ u. goes-out s buffers output P (send-seen s (length buffers) (length output) q) u (f q u))
     (λ u. g (λ _ v. absurd (true-is-not-false u v))))
     (λ t. g (λ q _. eqb-false (refusalOf cs) 0 t q))
@@ -150,7 +158,7 @@ arrive-either r k x room output P f g h i =
     let n = length (x .bytes) in
     let cs = arrivalChecks r k (x .channel) n room (length output) in
     let Q : Arrived → List ℕ → Type 0 = λ a l. P (arrivingOf a l) in
-    by-both Q (eqb (refusalOf cs) 0)
+    by-one Q (eqb (refusalOf cs) 0)
     (λ t. by-cases (λ (a : Arrived). Q a (cond (eqb k (r .expected) && room) (laid output 0 (x .bytes)) output)) (eqb k (r .expected))
     (λ u. by-cases (λ (a : Arrived). Q a (cond (eqb k (r .expected) && room) (laid output 0 (x .bytes)) output)) room
     (λ v.
@@ -177,35 +185,30 @@ arrive-either r k x room output P f g h i =
 
 -- a damaged arrival is answered with NACK, since the receiver keeps its rule
 pub damaged-is : (r : Receiver) (room : Bool) (output : List ℕ) → receiverRule r ≡ true → ours .arrive r damaged room output ≡ denies r
-unfolding arriving damagedArrivalOf
+unfolding arriving
 damaged-is r room output q =
-    ap (λ (a : Arrived). arrivingOf a output) (done (receiverChecks r) (refusedArrival r) (nackOf r) (receiver-passes r q))
+    ap (λ (a : Arrived). arrivingOf a output) (damaged-arrival-done r q)
 
 -- replies and ticks: on a link that is up they are heard, on one that is down they change nothing
 pub ack-heard : (s : Sender) (k : ℕ) → Hears s k → hearing s (ack k) ≡ withCounters s (heard (s .counters) false k)
-unfolding hearing replyOf
-ack-heard s k h = ap (λ (a : Answered). a .sender) (done (replyChecks s k) (refusedSender s) _ (reply-passes s k h))
+unfolding hearing
+ack-heard s k h = ap (λ (a : Answered). a .sender) (reply-done s false k h)
 
 pub nack-heard : (s : Sender) (k : ℕ) → Hears s k → hearing s (nack k) ≡ withCounters s (heard (s .counters) true k)
-unfolding hearing replyOf
-nack-heard s k h = ap (λ (a : Answered). a .sender) (done (replyChecks s k) (refusedSender s) _ (reply-passes s k h))
+unfolding hearing
+nack-heard s k h = ap (λ (a : Answered). a .sender) (reply-done s true k h)
 
 pub damaged-heard : (s : Sender) → hearing s damaged-reply ≡ s
 unfolding hearing damagedReplyOf
 damaged-heard s = by-cases (λ (a : Answered). a .sender ≡ s) (eqb (refusalOf (senderChecks s)) 0) {x = record { refusal = 0; sender = s }} {y = refusedSender s (refusalOf (senderChecks s))} (λ _. refl) (λ _. refl)
 
 pub ticks : (s : Sender) → Sound s → tickOf s .sender ≡ withCounters s (ticked (s .counters))
-unfolding tickOf
-ticks s h = ap (λ (a : Ticked). a .sender) (done (senderChecks s) (refusedTick s) _ (sender-passes s h))
+ticks s h = ap (λ (a : Ticked). a .sender) (tick-done s h)
 
 -- a tick says whether it took the link down
 pub tick-fell : (s : Sender) → Sound s → tickOf s .fell ≡ isDown (tickOf s .sender .counters)
-unfolding tickOf
 tick-fell s h =
-    let d = ticked (s .counters) in
-    let is : tickOf s ≡ record { refusal = 0; fell = isDown d; sender = withCounters s d } =
-    done (senderChecks s) (refusedTick s) _ (sender-passes s h) in
-    ap (λ (a : Ticked). a .fell) is ∙ sym (ap (λ (a : Ticked). isDown (a .sender .counters)) is)
+    ap (λ (a : Ticked). a .fell) (tick-done s h) ∙ sym (ap (λ (a : Ticked). isDown (a .sender .counters)) (tick-done s h))
 
 module _ (s : Sender) (down : s .counters .link ≡ 2) where
   refused-tick : tickOf s ≡ refusedTick s (refusalOf (senderChecks s))

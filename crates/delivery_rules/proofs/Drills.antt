@@ -8,8 +8,8 @@ use native.Mathlib.Omega.{arith}
 use lib.Dec.{eqb}
 use lib.ListN.{length, getD, replicate}
 use Rattle.laws.proofs.Cases.{by-cases}
+use Rattle.retry_rules.specs.Lent.{Content}
 use Rattle.delivery_rules.specs.Model.{
-  Content,
   Item,
   segment,
   damaged,

@@ -13,15 +13,14 @@ use Rattle.laws.proofs.Cases.{first-true, second-true}
 use Rattle.retry_rules.specs.declared.Counters.{Counters}
 use Rattle.retry_rules.specs.declared.Sender.{Sender}
 use Rattle.retry_rules.specs.declared.Receiver.{Receiver}
-use Rattle.retry_rules.specs.States.{countersRule, slotsRule, senderRule, receiverRule, Eight}
-use Rattle.retry_rules.specs.Lent.{heldBytes}
+use Rattle.retry_rules.specs.States.{slotOf, countersRule, slotsRule, senderRule, receiverRule, Eight}
+use Rattle.retry_rules.specs.Lent.{Content, heldBytes, heldContent}
 use Rattle.retry_rules.proofs.Rules.{Numbers, Holds, holds}
 use Rattle.retry_rules.proofs.Seen.{Sound}
-use Rattle.delivery_rules.specs.Model.{Content, Item, segment, damaged, Reply, ack, nack, damaged-reply, Seen, isUp, seenWith, World, told, lined}
+use Rattle.delivery_rules.specs.Model.{Item, segment, damaged, Reply, ack, nack, damaged-reply, Seen, isUp, seenWith, World, told, lined}
 use Rattle.delivery_rules.specs.Demand.{noContent, Good}
 use Rattle.delivery_rules.specs.Ours.{ours}
 use Rattle.delivery_rules.proofs.Lines.{Line}
-use Rattle.delivery_rules.proofs.Buffers.{holding}
 
 -- an item on the line is the j-th accepted segment under its number; one that is damaged counts for nothing
 abbrev pub IsItem : List Content → Item → ℕ → Type 0
@@ -73,7 +72,7 @@ pub record Inv (S : ℕ) (w : World ours) : Type 0 where
   pub good : (j : ℕ) → j < length (w .seen .accepted) → Good S (getD (w .seen .accepted) j noContent)
   pub holds-it :
       (i : ℕ) → i < w .sender .counters .stored
-      → holding (w .sender) (w .buffers) ((w .seen .released + i) % 8) ≡ getD (w .seen .accepted) (w .seen .released + i) noContent
+      → heldContent (w .sender) (w .buffers) (slotOf (w .sender .counters) i) ≡ getD (w .seen .accepted) (w .seen .released + i) noContent
   pub items : Line (IsItem (w .seen .accepted)) IsDamaged (w .seen .gone) (length (w .seen .delivered)) (w .forward)
   pub replies : Line IsAck IsIdle (length (w .seen .delivered)) (w .seen .released) (w .backward)
 
@@ -147,7 +146,7 @@ module _ (S : ℕ) (w : World ours) (v : Inv S w) where
       → Line IsAck IsIdle (length (w .seen .delivered)) (w .seen .released) rest
       → senderRule (retimed point timer expiries link) ≡ true
       → Inv S (told ours w (retimed point timer expiries link) rest (seenWith (w .seen) (w .seen .gone) (w .seen .released) ticks counted))
-  unfolding heldBytes
+  unfolding heldContent heldBytes
   retimed-inv point timer expiries link ticks counted rest q p l k =
       let c = v .counts in
       let f = v .follows in

@@ -3,7 +3,6 @@ pub mod Seeing
 pub mod Drills
 pub mod Round
 pub mod Lines
-pub mod Buffers
 pub mod Calls
 pub mod Invariant
 pub mod Ticks

@@ -9,8 +9,8 @@ use borrow.Author.Tests.{ltb-true}
 use lib.Dec.{ltb, eqb}
 use lib.ListN.{length, set, length-append}
 use Rattle.laws.proofs.Cases.{by-cases, first-true, second-true}
+use Rattle.retry_rules.specs.Lent.{Content}
 use Rattle.delivery_rules.specs.Model.{
-  Content,
   Item,
   Reply,
   ack,

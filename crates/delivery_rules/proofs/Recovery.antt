@@ -14,14 +14,13 @@ use Rattle.retry_rules.specs.declared.Counters.{Counters}
 use Rattle.retry_rules.specs.declared.Sender.{Sender}
 use Rattle.retry_rules.specs.declared.Receiver.{Receiver}
 use Rattle.retry_rules.specs.Numbers.{amongLast, between}
-use Rattle.retry_rules.specs.Lent.{heldLength}
+use Rattle.retry_rules.specs.Lent.{Content, heldLength, heldContent}
 use Rattle.retry_rules.specs.Send.{toSend, dueSlot, sendPoint, oneSent}
 use Rattle.retry_rules.specs.Reply.{restarted, oneReleased, acked, heard, withCounters}
 use Rattle.retry_rules.specs.Arrival.{advanced}
 use Rattle.retry_rules.proofs.StoredSlots.{stored-slot}
 use Rattle.retry_rules.proofs.Seen.{Sound, Hears, Sends, send-passes, Arrives, arrival-passes}
 use Rattle.delivery_rules.specs.Model.{
-  Content,
   Item,
   segment,
   damaged,
@@ -57,7 +56,7 @@ use Rattle.delivery_rules.specs.Demand.{noContent, Good, Empty, NoExpiry
 use Rattle.delivery_rules.specs.Ours.{hearing, arriving, ours}
 use Rattle.delivery_rules.proofs.Round.{near-is, among, same-number}
 use Rattle.delivery_rules.proofs.Sequence.{Sequence, done, then-one, first-of, in-order, none-left}
-use Rattle.delivery_rules.proofs.Buffers.{held-length}
+use Rattle.retry_rules.proofs.Held.{held-length}
 use Rattle.delivery_rules.proofs.Seeing.{own-ack}
 use Rattle.delivery_rules.proofs.Ticks.{tick-either}
 use Rattle.delivery_rules.proofs.Calls.{goes, stays, send-either, drops, takes, repeats, denies, arrive-either, ack-heard}
@@ -81,7 +80,7 @@ module _ (S : ℕ) (w : World ours) where
   sends-next :
       (j : ℕ) (output : List ℕ) → Resending S j w → j < length (w .seen .accepted)
       → length (getD (w .seen .accepted) j noContent .bytes) ≤ length output → Resending S (suc j) (step ours (send output) w)
-  unfolding step
+  unfolding step heldContent
   sends-next j output r lt long =
       let s = w .sender in
       let c = s .counters in
@@ -95,8 +94,9 @@ module _ (S : ℕ) (w : World ours) where
       let most = stored-slot s (c .point) (slots-rule s (v .rule)) here .most in
       let lent : length (w .buffers) ≡ 8 * c .size = omega (arith, v .lent, v .size) in
       let due = due-is S w v here in
+      let slot-lt : dueSlot c < 8 = omega arith in
       let long′ : heldLength s (dueSlot c) ≤ length output =
-      omega (arith, held-length s (w .buffers) (dueSlot c) lent (omega arith) most, ap (λ (x : Content). length (x .bytes)) due, ap (λ (i : ℕ). length (getD (w .seen .accepted) i noContent .bytes)) q, long) in
+      omega (arith, held-length s (w .buffers) (dueSlot c) lent slot-lt most, ap (λ (x : Content). length (x .bytes)) due, ap (λ (i : ℕ). length (getD (w .seen .accepted) i noContent .bytes)) q, long) in
       let passes = send-passes s (length (w .buffers)) (length output) (record { sound = sound; buffers = lent; long = λ _. long′ }) in
       send-either s (w .buffers) output (λ (a : Sending Sender). Inv S (sent ours w a) → Resending S (suc j) (sent ours w a))
       (λ _ t inv.

@@ -11,17 +11,17 @@ use borrow.Author.Tests.{ltb-true, ltb-false, eqb-true, eqb-false}
 use Rattle.laws.proofs.Cases.{by-cases, by-test}
 use Rattle.retry_rules.specs.declared.Counters.{Counters}
 use Rattle.retry_rules.specs.declared.Sender.{Sender}
-use Rattle.retry_rules.specs.States.{senderRule}
+use Rattle.retry_rules.specs.States.{slotOf, senderRule}
 use Rattle.retry_rules.specs.Numbers.{amongLast}
-use Rattle.retry_rules.specs.Lent.{heldBytes}
+use Rattle.retry_rules.specs.Lent.{Content, heldBytes, heldContent}
 use Rattle.retry_rules.specs.Reply.{toOldest, restarted, oneReleased, acked, nacked, heard, withCounters}
 use Rattle.retry_rules.specs.Tick.{tickOf}
 use Rattle.retry_rules.proofs.Seen.{Sound, Hears}
 use Rattle.retry_rules.proofs.Kept.{reply-kept, tick-kept}
-use Rattle.delivery_rules.specs.Model.{Content, Item, Reply, ack, nack, damaged-reply, Seen, seenWith, seenReply, seenTick, World, told, hears}
+use Rattle.delivery_rules.specs.Model.{Item, Reply, ack, nack, damaged-reply, Seen, seenWith, seenReply, seenTick, World, told, hears}
 use Rattle.delivery_rules.specs.Demand.{noContent}
 use Rattle.delivery_rules.specs.Ours.{hearing, ours}
-use Rattle.delivery_rules.proofs.Round.{near-is}
+use Rattle.delivery_rules.proofs.Round.{near-is, next-slot}
 use Rattle.delivery_rules.proofs.Lines.{Line, lower, tail, First, first}
 use Rattle.delivery_rules.proofs.Seeing.{stands, is-down, unheard, unticked, other-ack, other-nack, own-ack, own-nack}
 use Rattle.delivery_rules.proofs.Calls.{ack-heard, nack-heard, damaged-heard, down-reply, down-tick}
@@ -55,7 +55,7 @@ module _ (S : ℕ) (w : World ours) (v : Inv S w) where
       → Inv S
       (told ours w (withCounters (w .sender) (restarted (oneReleased (w .sender .counters)))) rest
       (seenWith (w .seen) (w .seen .gone) (w .seen .released + 1) 0 0))
-  unfolding heldBytes
+  unfolding heldContent heldBytes
   released-inv rest some lt l rule =
       let c = w .sender .counters in
       let g = w .seen in
@@ -75,7 +75,8 @@ module _ (S : ℕ) (w : World ours) (v : Inv S w) where
         good = v .good;
         holds-it = λ i h.
             let q : g .released + 1 + i ≡ g .released + (1 + i) = omega arith in
-            rw q (v .holds-it (1 + i) (omega arith));
+            let slot : slotOf (oneReleased c) i ≡ slotOf c (1 + i) = next-slot (c .oldest) i in
+            rw (q, slot) (v .holds-it (1 + i) (omega arith));
         items = lower (omega arith) (omega arith) (v .items);
         replies = lower (omega arith) (omega arith) l;
       }

@@ -1,4 +1,4 @@
--- Numbers that go round: segments near to one another are told apart by their numbers, and those in the window by their buffers.
+-- Numbers that go round: segments near to one another are told apart by their numbers.
 -- Assumes nothing.
 use mathlib.Core.Path.{_≡_}
 use Prim.Native.Nat.{ℕ, _+_, _-_, _%_, _≤_, _<_, min}
@@ -6,17 +6,13 @@ use native.Mathlib.Omega.{arith}
 use native.Mathlib.Decide.{decLt}
 use Rattle.retry_rules.specs.Numbers.{between}
 
--- two of the window of eight are in two buffers
-pub other-buffer : (o i k : ℕ) → i < k → k < 8 → (o + i) % 8 ≡ (o % 16 + k) % 8 → ⊥
-other-buffer o i k h u q = omega arith
+-- the buffer i after the oldest, once that is released
+pub next-slot : (o i : ℕ) → ((o + 1) % 16 + i) % 8 ≡ (o + (1 + i)) % 8
+next-slot o i = omega arith
 
--- and have two numbers, the next to go out among them
+-- two of the window of eight have two numbers, the next to go out among them
 pub other-number : (o i k : ℕ) → i < k → k ≤ 8 → (o % 16 + i) % 16 ≡ (o + k) % 16 → ⊥
 other-number o i k h u q = omega arith
-
--- a place of the window that is none before the k-th is the k-th
-pub same-buffer : (o i k : ℕ) → i ≡ k → (o + i) % 8 ≡ (o % 16 + k) % 8
-same-buffer o i k q = omega arith
 
 pub same-number : (o k : ℕ) → (o % 16 + k) % 16 ≡ (o + k) % 16
 same-number o k = omega arith

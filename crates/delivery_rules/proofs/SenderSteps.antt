@@ -15,16 +15,17 @@ use Rattle.retry_rules.specs.declared.Counters.{Counters}
 use Rattle.retry_rules.specs.declared.Sender.{Sender}
 use Rattle.retry_rules.specs.States.{senderRule, slotOf, Eight}
 use Rattle.retry_rules.specs.Numbers.{amongLast}
-use Rattle.retry_rules.specs.Lent.{laid, bufferAt, heldBytes}
+use Rattle.retry_rules.specs.Lent.{Content, laid, bufferAt, heldBytes, heldContent}
 use Rattle.retry_rules.specs.Offer.{freeSlot, storedIn, offerOf}
 use Rattle.retry_rules.specs.Send.{toSend, dueSlot, sendPoint, oneSent, sendOf}
 use Rattle.retry_rules.specs.Reply.{toOldest, restarted, oneReleased, acked, nacked, heard, withCounters}
 use Rattle.retry_rules.specs.Tick.{expired, fallen, ticked, tickOf}
-use Rattle.retry_rules.proofs.StoredSlots.{stored-slot}
+use Rattle.retry_rules.specs.Calls.{SenderCall}
+use Rattle.retry_rules.proofs.Laid.{laid-length, buffers-apart}
+use Rattle.retry_rules.proofs.Held.{stores, keeps-stored}
 use Rattle.retry_rules.proofs.Seen.{Sound, Hears, Offers}
-use Rattle.retry_rules.proofs.Kept.{offer-kept, offer-eight, send-kept, reply-kept, tick-kept}
+use Rattle.retry_rules.proofs.Kept.{offer-kept, eight-after, send-kept}
 use Rattle.delivery_rules.specs.Model.{
-  Content,
   Item,
   segment,
   damaged,
@@ -50,9 +51,8 @@ use Rattle.delivery_rules.specs.Model.{
 }
 use Rattle.delivery_rules.specs.Demand.{noContent, Good}
 use Rattle.delivery_rules.specs.Ours.{hearing, ours}
-use Rattle.delivery_rules.proofs.Round.{other-buffer, other-number, same-buffer, same-number}
+use Rattle.delivery_rules.proofs.Round.{other-number, same-number}
 use Rattle.delivery_rules.proofs.Lines.{Line, weaken, lower, snoc, tail, first}
-use Rattle.delivery_rules.proofs.Buffers.{holding, stored-length, stored-holds, stored-others}
 use Rattle.delivery_rules.proofs.Calls.{taken, turnedDown, offer-either, goes, stays, send-either, ack-heard, nack-heard, damaged-heard, ticks, down-reply, down-tick}
 use Rattle.delivery_rules.proofs.Invariant.{IsItem, IsAck, IsIdle, Inv, numbers, slots-rule, up, down, retimed, retimed-inv}
 
@@ -76,6 +76,8 @@ module _ (S : ℕ) (w : World ours) (v : Inv S w) where
       let u = v .counts in
       let f = v .follows in
       let free = o .free in
+      let inside : bufferAt s (freeSlot c) + length (x .bytes) ≤ length (w .buffers) =
+      omega (arith, buffers-apart (c .size) (freeSlot c) 8 (omega arith), o .buffers, o .most) in
       let fits : Good (c .size) x = record { channel-lt = o .channel-lt; some = o .some; most = o .most } in
       let more : length (acc ++ x ∷ []) ≡ length acc + 1 = length-append acc (x ∷ []) in
       let fits-S : Good S x = subst (λ (z : ℕ). Good z x) (v .size) fits in
@@ -83,7 +85,7 @@ module _ (S : ℕ) (w : World ours) (v : Inv S w) where
         rule = rule;
         eight = eight;
         size = v .size;
-        lent = stored-length s (w .buffers) x (v .eight) (o .buffers) fits ∙ v .lent;
+        lent = laid-length (w .buffers) (bufferAt s (freeSlot c)) (x .bytes) inside ∙ v .lent;
         receives = v .receives;
         receiver-size = v .receiver-size;
         counts = omega arith;
@@ -101,22 +103,17 @@ module _ (S : ℕ) (w : World ours) (v : Inv S w) where
         holds-it = λ i h.
             elim (decLt i (c .stored)) [
               | yes p ↦
-                  let q : (g .released + i) % 8 ≡ slotOf c i = omega arith in
-                  let most = stored-slot s i (slots-rule s (v .rule)) p .most in
-                  stored-others s (w .buffers) x (v .eight) (o .buffers) fits ((g .released + i) % 8) (omega arith)
-                  (λ z. other-buffer (g .released) i (c .stored) p free (z ∙ ap (λ (k : ℕ). (k + c .stored) % 8) (u .oldest)))
-                  (rw q most)
-                  ∙ v .holds-it i p
+                  keeps-stored s (w .buffers) (x .channel) (x .bad) (x .bytes) (v .eight) o i p ∙ v .holds-it i p
                   ∙ sym (List·getD-append acc (x ∷ []) noContent (g .released + i) (omega arith))
               | no p ↦
                   let last : i ≡ c .stored = omega arith in
-                  let z : (g .released + i) % 8 ≡ freeSlot c = same-buffer (g .released) i (c .stored) last ∙ ap (λ (k : ℕ). (k + c .stored) % 8) (sym (u .oldest)) in
                   let y : g .released + i ≡ length acc = omega arith in
                   ap
-                  (holding (storedIn s (x .channel) (x .bad) (length (x .bytes)))
-                  (laid (w .buffers) (bufferAt s (freeSlot c)) (x .bytes)))
-                  z
-                  ∙ stored-holds s (w .buffers) x (v .eight) (o .buffers) fits
+                  (λ (k : ℕ).
+                  heldContent (storedIn s (x .channel) (x .bad) (length (x .bytes)))
+                  (laid (w .buffers) (bufferAt s (freeSlot c)) (x .bytes)) (slotOf c k))
+                  last
+                  ∙ stores s (w .buffers) (x .channel) (x .bad) (x .bytes) (v .eight) o
                   ∙ sym (getD-append-seam acc x [] noContent)
                   ∙ ap (λ (k : ℕ). getD (acc ++ x ∷ []) k noContent) (sym y)
             ];
@@ -131,7 +128,7 @@ module _ (S : ℕ) (w : World ours) (v : Inv S w) where
       (λ (a : Offering Sender). senderRule (a .state) ≡ true → Eight (a .state) → Inv S (offered ours w x a))
       (λ o rule eight. taken-inv x o rule eight) (λ _ _ _. v)
       (offer-kept (w .sender) (length (w .buffers)) (x .channel) (x .bad) (length (x .bytes)) (v .eight) (v .rule))
-      (offer-eight (w .sender) (length (w .buffers)) (x .channel) (x .bad) (length (x .bytes)) (v .eight))
+      (eight-after (w .sender) (SenderCall.offer (length (w .buffers)) (x .channel) (x .bad) (length (x .bytes))) (v .eight))
 
   -- what is seen to have gone out once the segment at the send point goes
   pub gone-is :
@@ -167,18 +164,14 @@ module _ (S : ℕ) (w : World ours) (v : Inv S w) where
   -- the segment at the send point is one that was accepted
   pub due-is :
       w .sender .counters .point < w .sender .counters .stored
-      → holding (w .sender) (w .buffers) (dueSlot (w .sender .counters))
+      → heldContent (w .sender) (w .buffers) (dueSlot (w .sender .counters))
       ≡ getD (w .seen .accepted) (w .seen .released + w .sender .counters .point) noContent
-  due-is h =
-      let c = w .sender .counters in
-      let u = v .counts in
-      let q : dueSlot c ≡ (w .seen .released + c .point) % 8 = ap (λ (k : ℕ). (k + c .point) % 8) (u .oldest) ∙ sym (same-buffer (w .seen .released) (c .point) (c .point) refl) in
-      ap (holding (w .sender) (w .buffers)) q ∙ v .holds-it (c .point) h
+  due-is h = v .holds-it (w .sender .counters .point) h
 
   goes-inv :
       toSend (w .sender .counters) ≡ true → senderRule (goes (w .sender) (w .buffers) .state) ≡ true
       → Inv S (sent ours w (goes (w .sender) (w .buffers)))
-  unfolding heldBytes
+  unfolding heldContent heldBytes
   goes-inv t rule =
       let c = w .sender .counters in
       let g = w .seen in
@@ -200,7 +193,7 @@ module _ (S : ℕ) (w : World ours) (v : Inv S w) where
         good = v .good;
         holds-it = v .holds-it;
         items =
-            snoc (segment (sendPoint c) (holding (w .sender) (w .buffers) (dueSlot c))) (g .released + c .point)
+            snoc (segment (sendPoint c) (heldContent (w .sender) (w .buffers) (dueSlot c))) (g .released + c .point)
             (ap (λ (k : ℕ). (k + c .point) % 16) (u .oldest) ∙ same-number (g .released) (c .point), due-is lt)
             (omega arith) (omega arith) (omega arith) (lower (omega arith) (omega arith) (v .items));
         replies = v .replies;

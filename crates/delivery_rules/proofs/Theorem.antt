@@ -9,7 +9,8 @@ use lib.ListN.{length, take}
 use lib.Seq.{take-all}
 use Rattle.retry_rules.specs.declared.Sender.{Sender}
 use Rattle.retry_rules.proofs.Seen.{Offers}
-use Rattle.delivery_rules.specs.Model.{Content, Offering, Event, offer, stored, World, offered, step, run}
+use Rattle.retry_rules.specs.Lent.{Content}
+use Rattle.delivery_rules.specs.Model.{Offering, Event, offer, stored, World, offered, step, run}
 use Rattle.delivery_rules.specs.Demand.{Good, AllGood, Moment, at, Drill, drilled, expireOnce, Recovered, Delivers}
 use Rattle.delivery_rules.specs.Ours.{ours}
 use Rattle.delivery_rules.proofs.Calls.{offer-either}

@@ -6,8 +6,8 @@ use mathlib.Core.Path.{_≡_}
 use lib.Dec.{eqb}
 use lib.ListN.{length, getD, take, replicate}
 use Rattle.retry_rules.specs.Numbers.{timeAllowed, sizeAllowed}
+use Rattle.retry_rules.specs.Lent.{Content}
 use Rattle.delivery_rules.specs.Model.{
-  Content,
   Item,
   segment,
   damaged,

@@ -4,12 +4,8 @@ use mathlib.Core.Bool.{Bool, true, false, cond, _&&_}
 use mathlib.Core.List.{List, [], _∷_, _++_}
 use lib.Dec.{ltb, eqb}
 use lib.ListN.{length, set}
-
--- a segment's content: segments are compared by this
-pub record Content : Type 0 where
-  pub channel : ℕ
-  pub bad : Bool
-  pub bytes : List ℕ
+-- a segment's content is its channel, its bad mark and its bytes: segments are compared by it
+use Rattle.retry_rules.specs.Lent.{Content}
 
 -- what stands on the line to the receiver, and on the line back. What is damaged brings neither number nor bytes
 pub data Item : Type 0 where

@@ -10,8 +10,8 @@ use borrow.Author.Tests.{eqb-true, eqb-false, leb-true, ltb-true, eq-eqb, not-tr
 use Rattle.laws.specs.Lists.{countFrom}
 use Rattle.laws.proofs.Cases.{both-true, first-true, second-true, false-is-not-true}
 use Rattle.retry_rules.specs.Numbers.{sizeAllowed}
+use Rattle.retry_rules.specs.Lent.{Content}
 use Rattle.delivery_rules.specs.Model.{
-  Content,
   Item,
   segment,
   damaged,

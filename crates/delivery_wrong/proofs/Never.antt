@@ -10,8 +10,8 @@ use lib.ListN.{length, replicate, set}
 use Rattle.laws.proofs.Cases.{by-cases}
 use Rattle.retry_rules.specs.Numbers.{sizeAllowed}
 use Rattle.retry_rules.specs.declared.Receiver.{Receiver}
+use Rattle.retry_rules.specs.Lent.{Content}
 use Rattle.delivery_rules.specs.Model.{
-  Content,
   Item,
   segment,
   damaged,

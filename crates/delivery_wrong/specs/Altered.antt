@@ -9,7 +9,8 @@ use Rattle.retry_rules.specs.declared.Sender.{Sender}
 use Rattle.retry_rules.specs.declared.Receiver.{Receiver}
 use Rattle.retry_rules.specs.Send.{oneSent}
 use Rattle.retry_rules.specs.Arrival.{advanced}
-use Rattle.delivery_rules.specs.Model.{Content, Item, segment, damaged, Reply, ack, nack, Offering, Sending, Arriving, Ends}
+use Rattle.retry_rules.specs.Lent.{Content}
+use Rattle.delivery_rules.specs.Model.{Item, segment, damaged, Reply, ack, nack, Offering, Sending, Arriving, Ends}
 use Rattle.delivery_rules.specs.Demand.{noContent}
 use Rattle.delivery_rules.specs.Ours.{ours}
 

@@ -6,7 +6,8 @@ use mathlib.Core.List.{List, []}
 use lib.Dec.{ltb, eqb}
 use lib.ListN.{getD, set, replicate}
 use Rattle.retry_rules.specs.Numbers.{amongLast}
-use Rattle.delivery_rules.specs.Model.{Content, Item, segment, damaged, Reply, ack, nack, damaged-reply, Offering, Sending, Arriving, Ends}
+use Rattle.retry_rules.specs.Lent.{Content}
+use Rattle.delivery_rules.specs.Model.{Item, segment, damaged, Reply, ack, nack, damaged-reply, Offering, Sending, Arriving, Ends}
 use Rattle.delivery_rules.specs.Demand.{noContent}
 
 pub record Choice : Type 0 where
