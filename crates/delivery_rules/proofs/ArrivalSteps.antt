@@ -1,12 +1,11 @@
 -- An arrival at our receiver keeps what holds at every moment.
 -- Assumes nothing.
-use mathlib.Core.Path.{_≡_, refl, sym, _∙_, ap, subst}
-use mathlib.Core.Bool.{Bool, true, false, cond}
+use mathlib.Core.Path.{_≡_, sym, _∙_, ap, subst}
+use mathlib.Core.Bool.{Bool, true}
 use mathlib.Core.List.{List, [], _∷_, _++_}
-use Prim.Native.Nat.{ℕ, suc, _+_, _%_, _≤_, _<_, min}
+use Prim.Native.Nat.{ℕ, suc, _+_, _%_, _<_, min}
 use native.Mathlib.Omega.{arith}
 use native.Mathlib.Numerals.{add-one}
-use lib.Dec.{ltb, eqb}
 use lib.ListN.{length, getD, take, length-append}
 use lib.Seq.{take-suc}
 use borrow.Author.Tests.{ltb-true}
@@ -16,13 +15,14 @@ use Rattle.retry_rules.specs.Numbers.{between, amongLast}
 use Rattle.retry_rules.specs.Arrival.{advanced}
 use Rattle.retry_rules.proofs.Kept.{arrival-kept}
 use Rattle.retry_rules.specs.Lent.{Content}
-use Rattle.delivery_rules.specs.Model.{Item, segment, damaged, Reply, ack, nack, Arriving, Seen, World, arrived, arrives}
+use Rattle.delivery_rules.specs.Ends.{Item, segment, damaged, ack, nack, Arriving}
+use Rattle.delivery_rules.specs.Model.{World, arrived, arrives}
 use Rattle.delivery_rules.specs.Demand.{noContent}
 use Rattle.delivery_rules.specs.Ours.{arriving, ours}
 use Rattle.delivery_rules.proofs.Round.{near-is, among-is}
 use Rattle.delivery_rules.proofs.Lines.{Line, lower, snoc, snoc-skip, tail, first}
-use Rattle.delivery_rules.proofs.Calls.{drops, takes, repeats, denies, arrive-either, damaged-is}
-use Rattle.delivery_rules.proofs.Invariant.{IsItem, IsDamaged, IsAck, IsIdle, Inv, numbers, lined-inv}
+use Rattle.delivery_rules.proofs.Calls.{takes, repeats, denies, arrive-either, damaged-is}
+use Rattle.delivery_rules.proofs.Invariant.{IsItem, IsDamaged, Inv, numbers, lined-inv}
 
 -- one more delivered, the next accepted one
 pub one-more :

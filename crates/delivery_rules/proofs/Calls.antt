@@ -2,17 +2,16 @@
 -- Assumes nothing.
 use mathlib.Core.Path.{_≡_, refl, sym, _∙_, ap, subst}
 use mathlib.Core.Bool.{Bool, true, false, cond, _&&_}
-use mathlib.Core.List.{List, [], _∷_}
-use Prim.Native.Nat.{ℕ, _+_, _*_, _%_, _≤_, _<_}
+use mathlib.Core.List.{List}
+use Prim.Native.Nat.{ℕ}
 use native.Mathlib.Omega.{arith}
-use lib.Dec.{eqb, ltb}
+use lib.Dec.{eqb}
 use lib.ListN.{length, getD, take, drop}
 use lib.Seq.{take-at}
-use borrow.Author.Tests.{eqb-true, eqb-false, ltb-true, eq-eqb, ne-eqb}
+use borrow.Author.Tests.{eqb-true, eqb-false, ltb-true}
 use Rattle.laws.proofs.Cases.{by-cases, both-true, false-is-not-true}
 use Rattle.refusal.specs.Order.{refusalOf}
-use Rattle.refusal.proofs.Laws.{done, refused}
-use Rattle.retry_rules.specs.declared.Counters.{Counters}
+use Rattle.refusal.proofs.Laws.{refused}
 use Rattle.retry_rules.specs.declared.Sender.{Sender}
 use Rattle.retry_rules.specs.declared.Receiver.{Receiver}
 use Rattle.retry_rules.specs.declared.Answered.{Answered}
@@ -23,18 +22,18 @@ use Rattle.retry_rules.specs.declared.Arrived.{Arrived}
 use Rattle.retry_rules.specs.Numbers.{amongLast}
 use Rattle.retry_rules.specs.States.{isDown, receiverRule}
 use Rattle.retry_rules.specs.Lent.{Content, laid, bufferAt, heldLength, heldBytes, heldContent}
-use Rattle.retry_rules.specs.Refused.{refusedSender, refusedOffer, refusedSend, refusedTick, refusedArrival}
+use Rattle.retry_rules.specs.Refused.{refusedSender, refusedTick}
 use Rattle.retry_rules.specs.Offer.{offerChecks, freeSlot, storedIn, offerOf, offerBuffers}
-use Rattle.retry_rules.specs.Send.{toSend, dueSlot, sendPoint, sendChecks, oneSent, dueSent, nothingSent, sendOf, sendOutput}
+use Rattle.retry_rules.specs.Send.{toSend, dueSlot, sendPoint, sendChecks, oneSent, dueSent, sendOf, sendOutput}
 use Rattle.retry_rules.specs.Reply.{heard, senderChecks, replyChecks, withCounters, replyOf, damagedReplyOf}
 use Rattle.retry_rules.specs.Tick.{ticked, tickOf}
-use Rattle.retry_rules.specs.Arrival.{wanted, arrivalChecks, advanced, undelivered, nackOf, delivery, answerTo, arrivalOf, arrivalOutput, receiverChecks, damagedArrivalOf}
+use Rattle.retry_rules.specs.Arrival.{arrivalChecks, advanced, delivery, answerTo, arrivalOf, arrivalOutput}
 use Rattle.retry_rules.proofs.StoredSlots.{stored-slot}
 use Rattle.retry_rules.proofs.Laid.{laid-first}
 use Rattle.retry_rules.proofs.Held.{held-length}
 use Rattle.retry_rules.proofs.Done.{reply-done, tick-done, damaged-arrival-done}
-use Rattle.retry_rules.proofs.Seen.{Sound, sender-seen, sender-passes, Hears, reply-seen, reply-passes, Offers, offer-seen, offer-passes, Sends, send-seen, Arrives, arrival-seen, receiver-passes}
-use Rattle.delivery_rules.specs.Model.{Item, segment, damaged, Reply, ack, nack, damaged-reply, Offering, Sending, Arriving}
+use Rattle.retry_rules.proofs.Seen.{Sound, sender-seen, Hears, reply-seen, Offers, offer-seen, offer-passes, Sends, send-seen}
+use Rattle.delivery_rules.specs.Ends.{segment, damaged, Reply, ack, nack, damaged-reply, Offering, Sending, Arriving}
 use Rattle.delivery_rules.specs.Demand.{noContent}
 use Rattle.delivery_rules.specs.Ours.{offeringOf, sendingOf, arrivingOf, hearing, arriving, ours}
 

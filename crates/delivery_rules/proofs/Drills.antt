@@ -1,51 +1,16 @@
 -- Of any two ends: the drill can be carried out from every world, and it offers nothing.
 -- Assumes nothing.
 use mathlib.Core.Path.{_≡_, refl, sym, _∙_, ap, subst}
-use mathlib.Core.Bool.{Bool, true, false, cond, _&&_}
-use mathlib.Core.List.{List, [], _∷_, _++_}
-use Prim.Native.Nat.{ℕ, zero, suc, _+_, _-_, _%_, _≤_, _<_}
+use mathlib.Core.Bool.{Bool, true, false}
+use mathlib.Core.List.{List, [], _∷_}
+use Prim.Native.Nat.{ℕ, zero, suc, _+_, _-_, _≤_}
 use native.Mathlib.Omega.{arith}
 use lib.Dec.{eqb}
 use lib.ListN.{length, getD, replicate}
 use Rattle.laws.proofs.Cases.{by-cases}
-use Rattle.retry_rules.specs.Lent.{Content}
-use Rattle.delivery_rules.specs.Model.{
-  Item,
-  segment,
-  damaged,
-  Reply,
-  ack,
-  nack,
-  damaged-reply,
-  Ends,
-  Sending,
-  Arriving,
-  Seen,
-  seenWith,
-  seenReply,
-  seenTick,
-  outstanding,
-  ticksLeft,
-  Event,
-  offer,
-  send,
-  arrive,
-  lose,
-  damage,
-  hear,
-  lose-reply,
-  damage-reply,
-  tick,
-  World,
-  sent,
-  arrived,
-  arrives,
-  told,
-  hears,
-  joined,
-  step,
-  run,
-}
+use Rattle.delivery_rules.specs.Ends.{Item, segment, damaged, Reply, Ends}
+use Rattle.delivery_rules.specs.Outside.{seenReply, outstanding, ticksLeft}
+use Rattle.delivery_rules.specs.Model.{Event, offer, send, arrive, lose, damage, hear, lose-reply, damage-reply, tick, World, sent, arrived, arrives, told, hears, joined, step, run}
 use Rattle.delivery_rules.proofs.Seeing.{reply-heard, tick-lists}
 use Rattle.delivery_rules.proofs.Ordered.{Ordered, run-ordered, moment-ordered}
 use Rattle.delivery_rules.specs.Demand.{noContent, Moment, at, Empty, Calm, AllCalm, expireOnce, Fits, SendsEach, Drill}

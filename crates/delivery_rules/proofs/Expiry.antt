@@ -1,22 +1,22 @@
 -- One expiry of our timer: the send point is at the oldest, and nothing else that the drill needs has changed.
 -- Assumes nothing.
-use mathlib.Core.Path.{_≡_, refl, sym, _∙_, ap, subst}
-use mathlib.Core.Bool.{Bool, true, false, cond}
-use mathlib.Core.List.{List, [], _∷_}
-use Prim.Native.Nat.{ℕ, zero, suc, _+_, _-_, _≤_, _<_}
+use mathlib.Core.Path.{_≡_, refl, sym, subst}
+use mathlib.Core.List.{List}
+use Prim.Native.Nat.{ℕ, zero, suc, _-_, _≤_, _<_}
 use native.Mathlib.Omega.{arith}
 use lib.Dec.{eqb}
-use lib.ListN.{length, replicate}
+use lib.ListN.{replicate}
 use borrow.Author.Tests.{eqb-true, eqb-false}
 use Rattle.laws.proofs.Cases.{by-cases}
-use Rattle.retry_rules.specs.declared.Sender.{Sender}
-use Rattle.delivery_rules.specs.Model.{Item, Reply, Seen, outstanding, ticksLeft, tick, World, told, step, run}
+use Rattle.delivery_rules.specs.Ends.{Item, Reply}
+use Rattle.delivery_rules.specs.Outside.{outstanding, ticksLeft}
+use Rattle.delivery_rules.specs.Model.{tick, World, told, step, run}
 use Rattle.delivery_rules.specs.Demand.{Empty, expireOnce}
 use Rattle.delivery_rules.specs.Ours.{ours}
 use Rattle.delivery_rules.proofs.Sequence.{Sequence, done}
 use Rattle.delivery_rules.proofs.Ticks.{tick-either}
 use Rattle.delivery_rules.proofs.Invariant.{IsItem, IsAck, Inv, numbers}
-use Rattle.delivery_rules.proofs.Safety.{step-inv, run-inv}
+use Rattle.delivery_rules.proofs.Safety.{step-inv}
 use Rattle.delivery_rules.proofs.Recovery.{Resending}
 
 -- ready to send again: both lines empty, the send point at the oldest

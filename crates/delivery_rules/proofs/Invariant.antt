@@ -1,23 +1,23 @@
 -- What holds of our two ends at every moment: the counters are what is seen from outside, the buffers hold what was accepted, and what stands
 -- on each line is near to what its end expects.
 -- Assumes nothing.
-use mathlib.Core.Path.{_≡_, refl, sym, _∙_, ap, subst}
-use mathlib.Core.Bool.{Bool, true, false, cond, _&&_}
-use mathlib.Core.List.{List, [], _∷_, _++_}
-use Prim.Native.Nat.{ℕ, zero, suc, _+_, _-_, _*_, _%_, _≤_, _<_, min, max}
+use mathlib.Core.Path.{_≡_}
+use mathlib.Core.Bool.{true}
+use mathlib.Core.List.{List}
+use Prim.Native.Nat.{ℕ, _+_, _*_, _%_, _≤_, _<_, min}
 use native.Mathlib.Omega.{arith}
-use lib.Dec.{ltb, eqb}
 use lib.ListN.{length, getD, take}
-use borrow.Author.Tests.{lt-ltb}
 use Rattle.laws.proofs.Cases.{first-true, second-true}
 use Rattle.retry_rules.specs.declared.Counters.{Counters}
 use Rattle.retry_rules.specs.declared.Sender.{Sender}
 use Rattle.retry_rules.specs.declared.Receiver.{Receiver}
 use Rattle.retry_rules.specs.States.{slotOf, countersRule, slotsRule, senderRule, receiverRule, Eight}
 use Rattle.retry_rules.specs.Lent.{Content, heldBytes, heldContent}
-use Rattle.retry_rules.proofs.Rules.{Numbers, Holds, holds}
+use Rattle.retry_rules.proofs.Rules.{Holds, holds}
 use Rattle.retry_rules.proofs.Seen.{Sound}
-use Rattle.delivery_rules.specs.Model.{Item, segment, damaged, Reply, ack, nack, damaged-reply, Seen, isUp, seenWith, World, told, lined}
+use Rattle.delivery_rules.specs.Ends.{Item, segment, damaged, Reply, ack, nack, damaged-reply}
+use Rattle.delivery_rules.specs.Outside.{Seen, seenWith}
+use Rattle.delivery_rules.specs.Model.{World, told, lined}
 use Rattle.delivery_rules.specs.Demand.{noContent, Good}
 use Rattle.delivery_rules.specs.Ours.{ours}
 use Rattle.delivery_rules.proofs.Lines.{Line}

@@ -1,49 +1,17 @@
 -- Of any two ends: no more is released than has gone out, and no more has gone out than was accepted.
 -- Assumes nothing.
-use mathlib.Core.Path.{_≡_, refl, ap}
+use mathlib.Core.Path.{_≡_}
 use mathlib.Core.Bool.{Bool, true, false, cond, _&&_}
-use mathlib.Core.List.{List, [], _∷_, _++_}
-use Prim.Native.Nat.{ℕ, _+_, _-_, _%_, _≤_, _<_}
+use mathlib.Core.List.{List, [], _∷_}
+use Prim.Native.Nat.{ℕ, _+_, _%_, _≤_, _<_}
 use native.Mathlib.Omega.{arith}
 use borrow.Author.Tests.{ltb-true}
 use lib.Dec.{ltb, eqb}
-use lib.ListN.{length, set, length-append}
+use lib.ListN.{length, length-append}
 use Rattle.laws.proofs.Cases.{by-cases, first-true, second-true}
-use Rattle.retry_rules.specs.Lent.{Content}
-use Rattle.delivery_rules.specs.Model.{
-  Item,
-  Reply,
-  ack,
-  nack,
-  damaged-reply,
-  Ends,
-  Seen,
-  isUp,
-  outstanding,
-  isRunning,
-  isOldest,
-  isLast,
-  goneWith,
-  seenWith,
-  seenReply,
-  seenTick,
-  Event,
-  offer,
-  send,
-  arrive,
-  lose,
-  damage,
-  hear,
-  lose-reply,
-  damage-reply,
-  tick,
-  joined,
-  World,
-  arrives,
-  hears,
-  step,
-  run,
-}
+use Rattle.delivery_rules.specs.Ends.{Item, Reply, ack, nack, damaged-reply, Ends}
+use Rattle.delivery_rules.specs.Outside.{Seen, isUp, outstanding, isRunning, isOldest, isLast, goneWith, seenWith, seenReply, seenTick}
+use Rattle.delivery_rules.specs.Model.{Event, offer, send, arrive, lose, damage, hear, lose-reply, damage-reply, tick, joined, World, arrives, hears, step, run}
 use Rattle.delivery_rules.specs.Demand.{Moment, at}
 
 pub record Ordered (g : Seen) : Type 0 where

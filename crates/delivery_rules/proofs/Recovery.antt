@@ -1,65 +1,34 @@
 -- Sending each stored segment once, with its reply: what stands on the lines meanwhile is the next ones, each once and in order.
 -- Assumes nothing.
 use mathlib.Core.Path.{_≡_, refl, sym, _∙_, ap, subst}
-use mathlib.Core.Bool.{Bool, true, false, cond}
-use mathlib.Core.List.{List, [], _∷_, _++_}
-use Prim.Native.Nat.{ℕ, zero, suc, _+_, _-_, _*_, _%_, _≤_, _<_, min, max}
+use mathlib.Core.Bool.{Bool, true, false}
+use mathlib.Core.List.{List, [], _∷_}
+use Prim.Native.Nat.{ℕ, suc, _+_, _*_, _%_, _≤_, _<_}
 use native.Mathlib.Omega.{arith}
 use native.Mathlib.Decide.{decLt}
-use lib.Dec.{ltb, eqb}
-use lib.ListN.{length, getD, take, length-append}
-use borrow.Author.Tests.{ltb-true, lt-ltb, eq-eqb, ne-eqb}
-use Rattle.laws.proofs.Cases.{cond-true, cond-false}
-use Rattle.retry_rules.specs.declared.Counters.{Counters}
+use lib.ListN.{length, getD, length-append}
+use borrow.Author.Tests.{lt-ltb}
+use Rattle.laws.proofs.Cases.{false-is-not-true}
 use Rattle.retry_rules.specs.declared.Sender.{Sender}
 use Rattle.retry_rules.specs.declared.Receiver.{Receiver}
 use Rattle.retry_rules.specs.Numbers.{amongLast, between}
 use Rattle.retry_rules.specs.Lent.{Content, heldLength, heldContent}
-use Rattle.retry_rules.specs.Send.{toSend, dueSlot, sendPoint, oneSent}
-use Rattle.retry_rules.specs.Reply.{restarted, oneReleased, acked, heard, withCounters}
-use Rattle.retry_rules.specs.Arrival.{advanced}
+use Rattle.retry_rules.specs.Send.{dueSlot, sendPoint}
+use Rattle.retry_rules.specs.Reply.{restarted, oneReleased, heard, withCounters}
+use Rattle.retry_rules.proofs.Steps.{heard-cases}
 use Rattle.retry_rules.proofs.StoredSlots.{stored-slot}
-use Rattle.retry_rules.proofs.Seen.{Sound, Hears, Sends, send-passes, Arrives, arrival-passes}
-use Rattle.delivery_rules.specs.Model.{
-  Item,
-  segment,
-  damaged,
-  Reply,
-  ack,
-  nack,
-  damaged-reply,
-  Sending,
-  Arriving,
-  Seen,
-  seenWith,
-  seenReply,
-  Event,
-  offer,
-  send,
-  arrive,
-  lose,
-  damage,
-  hear,
-  lose-reply,
-  damage-reply,
-  tick,
-  World,
-  sent,
-  arrived,
-  arrives,
-  told,
-  hears,
-  step,
-  run,
-}
+use Rattle.retry_rules.proofs.Seen.{send-passes, arrival-passes}
+use Rattle.delivery_rules.specs.Ends.{Item, segment, damaged, Reply, ack, nack, damaged-reply, Sending, Arriving}
+use Rattle.delivery_rules.specs.Outside.{Seen, seenWith, seenReply}
+use Rattle.delivery_rules.specs.Model.{Event, offer, send, arrive, lose, damage, hear, lose-reply, damage-reply, tick, World, sent, arrived, arrives, told, hears, step, run}
 use Rattle.delivery_rules.specs.Demand.{noContent, Good, Empty, NoExpiry, Fits, SendsEach}
 use Rattle.delivery_rules.specs.Ours.{hearing, arriving, ours}
 use Rattle.delivery_rules.proofs.Round.{near-is, among, same-number}
-use Rattle.delivery_rules.proofs.Sequence.{Sequence, done, then-one, first-of, in-order, none-left}
+use Rattle.delivery_rules.proofs.Sequence.{Sequence, then-one, first-of, in-order, none-left}
 use Rattle.retry_rules.proofs.Held.{held-length}
 use Rattle.delivery_rules.proofs.Seeing.{own-ack}
 use Rattle.delivery_rules.proofs.Ticks.{tick-either}
-use Rattle.delivery_rules.proofs.Calls.{goes, stays, send-either, drops, takes, repeats, denies, arrive-either, ack-heard}
+use Rattle.delivery_rules.proofs.Calls.{goes, send-either, arrive-either, ack-heard}
 use Rattle.delivery_rules.proofs.Invariant.{IsItem, IsAck, Inv, numbers, slots-rule, up}
 use Rattle.delivery_rules.proofs.SenderSteps.{due-is}
 use Rattle.delivery_rules.proofs.Safety.{step-inv}
@@ -185,7 +154,6 @@ module _ (S : ℕ) (w : World ours) where
       (j k : ℕ) (rest : List Reply) (r : Resending S j w) → k ≡ w .seen .released % 16 → Sequence IsAck (suc (w .seen .released)) (r .b) rest
       → Inv S (told ours w (hearing (w .sender) (ack k)) rest (seenReply (w .seen) (ack k)))
       → Resending S j (told ours w (hearing (w .sender) (ack k)) rest (seenReply (w .seen) (ack k)))
-  unfolding heard acked
   hears-next j k rest r q l =
       let s = w .sender in
       let c = s .counters in
@@ -201,8 +169,8 @@ module _ (S : ℕ) (w : World ours) where
       let out : 0 < c .outstanding = omega arith in
       let mine : k ≡ c .oldest = q ∙ sym (u .oldest) in
       let is : heard c false k ≡ restarted (oneReleased c) =
-      cond-false (eqb (c .outstanding) 0) c _ (ne-eqb (c .outstanding) 0 (λ z. omega arith))
-      ∙ cond-true (eqb k (c .oldest)) (restarted (oneReleased c)) _ (eq-eqb k (c .oldest) mine) in
+      heard-cases (λ d. d ≡ restarted (oneReleased c)) c false k (λ none. absurd (omega arith)) (λ _ z. absurd (false-is-not-true z))
+      (λ _ z. absurd (false-is-not-true z)) (λ _ _ _. refl) (λ _ _ ne _. absurd (ne mine)) (λ _ _ ne _. absurd (ne mine)) in
       let sender : hearing s (ack k) ≡ withCounters s (restarted (oneReleased c)) =
       ack-heard s k (record { sound = up S w v few; number-lt = k-lt }) ∙ ap (withCounters s) is in
       let seen = own-ack g few (omega arith) k q in

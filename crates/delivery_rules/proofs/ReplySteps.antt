@@ -1,28 +1,29 @@
 -- A reply and a tick at our sender keep what holds at every moment.
 -- Assumes nothing.
-use mathlib.Core.Path.{_≡_, refl, sym, _∙_, ap, subst}
-use mathlib.Core.Bool.{Bool, true, false, cond}
+use mathlib.Core.Path.{_≡_, refl, sym, _∙_, subst}
+use mathlib.Core.Bool.{true, false}
 use mathlib.Core.List.{List, [], _∷_}
-use Prim.Native.Nat.{ℕ, suc, _+_, _-_, _%_, _≤_, _<_, min, max}
+use Prim.Native.Nat.{ℕ, suc, _+_, _-_, _%_, _<_}
 use native.Mathlib.Omega.{arith}
-use lib.Dec.{ltb, eqb}
-use lib.ListN.{length, getD}
-use borrow.Author.Tests.{ltb-true, ltb-false, eqb-true, eqb-false}
-use Rattle.laws.proofs.Cases.{by-cases, by-test}
+use lib.Dec.{ltb}
+use lib.ListN.{length}
+use borrow.Author.Tests.{ltb-true, ltb-false}
+use Rattle.laws.proofs.Cases.{by-test, false-is-not-true}
 use Rattle.retry_rules.specs.declared.Counters.{Counters}
 use Rattle.retry_rules.specs.declared.Sender.{Sender}
 use Rattle.retry_rules.specs.States.{slotOf, senderRule}
-use Rattle.retry_rules.specs.Numbers.{amongLast}
-use Rattle.retry_rules.specs.Lent.{Content, heldBytes, heldContent}
-use Rattle.retry_rules.specs.Reply.{toOldest, restarted, oneReleased, acked, nacked, heard, withCounters}
+use Rattle.retry_rules.specs.Lent.{heldBytes, heldContent}
+use Rattle.retry_rules.specs.Reply.{toOldest, restarted, oneReleased, heard, withCounters}
 use Rattle.retry_rules.specs.Tick.{tickOf}
-use Rattle.retry_rules.proofs.Seen.{Sound, Hears}
+use Rattle.retry_rules.proofs.Seen.{Hears}
+use Rattle.retry_rules.proofs.Steps.{heard-cases}
 use Rattle.retry_rules.proofs.Kept.{reply-kept, tick-kept}
-use Rattle.delivery_rules.specs.Model.{Item, Reply, ack, nack, damaged-reply, Seen, seenWith, seenReply, seenTick, World, told, hears}
-use Rattle.delivery_rules.specs.Demand.{noContent}
+use Rattle.delivery_rules.specs.Ends.{Reply, ack, nack, damaged-reply}
+use Rattle.delivery_rules.specs.Outside.{Seen, seenWith, seenReply, seenTick}
+use Rattle.delivery_rules.specs.Model.{World, told, hears}
 use Rattle.delivery_rules.specs.Ours.{hearing, ours}
 use Rattle.delivery_rules.proofs.Round.{near-is, next-slot}
-use Rattle.delivery_rules.proofs.Lines.{Line, lower, tail, First, first}
+use Rattle.delivery_rules.proofs.Lines.{Line, lower, tail, first}
 use Rattle.delivery_rules.proofs.Seeing.{stands, is-down, unheard, unticked, other-ack, other-nack, own-ack, own-nack}
 use Rattle.delivery_rules.proofs.Calls.{ack-heard, nack-heard, damaged-heard, down-reply, down-tick}
 use Rattle.delivery_rules.proofs.Ticks.{tick-either}
@@ -83,7 +84,7 @@ module _ (S : ℕ) (w : World ours) (v : Inv S w) where
 
   module _ (h : w .seen .expiries < 3) (rest : List Reply) where
     ack-inv : (k : ℕ) → Replies (ack k ∷ rest) → Inv S (told ours w (hearing (w .sender) (ack k)) rest (seenReply (w .seen) (ack k)))
-    unfolding hearing heard acked
+    unfolding hearing
     ack-inv k l =
         let s = w .sender in
         let c = s .counters in
@@ -95,30 +96,21 @@ module _ (S : ℕ) (w : World ours) (v : Inv S w) where
         let is : k ≡ a .j % 16 = a .stands in
         let hears-it : Hears s k = record { sound = up S w v h; number-lt = omega arith } in
         let P : Counters → Type 0 = λ d. senderRule (withCounters s d) ≡ true → Inv S (told ours w (withCounters s d) rest (seenReply g (ack k))) in
-        let ignored : seenReply g (ack k) ≡ g → P c = λ q _. rw q (same-inv rest (tail l)) in
+        let other : (k ≡ c .oldest → ⊥) → seenReply g (ack k) ≡ g = λ ne. other-ack g k (λ q. ne (q ∙ sym (u .oldest))) in
         let all : P (heard c false k) =
-        by-cases P (eqb (c .outstanding) 0)
-        (λ t.
-        let z = eqb-true (c .outstanding) 0 t in
-        ignored (unheard g (ack k) (stands g (omega arith))))
-        (λ t.
-        let z = eqb-false (c .outstanding) 0 t in
-        by-cases P (eqb k (c .oldest))
-        (λ e.
-        let eq = eqb-true k (c .oldest) e in
+        heard-cases P c false k (λ none _. rw (unheard g (ack k) (stands g (omega arith))) (same-inv rest (tail l)))
+        (λ _ q. absurd (false-is-not-true q)) (λ _ q. absurd (false-is-not-true q))
+        (λ some _ eq rule.
         let mine : k ≡ g .released % 16 = eq ∙ u .oldest in
         let low : a .j < g .released + 8 = omega arith in
         let j-is = near-is (a .j) (g .released) (a .near) low (sym is ∙ mine) in
-        λ rule.
         rw (own-ack g h (omega arith) k mine)
-        (released-inv rest (omega arith) (omega arith) (lower (omega arith) (omega arith) (a .rest)) rule))
-        (λ e.
-        let other = other-ack g k (λ q. eqb-false k (c .oldest) e (q ∙ sym (u .oldest))) in
-        by-cases P (amongLast (c .released) (c .oldest) k) (λ _. ignored other) (λ _ rule. rw other (moved-inv rest (tail l) rule)))) in
+        (released-inv rest some (omega arith) (lower (omega arith) (omega arith) (a .rest)) rule))
+        (λ _ _ ne _ _. rw (other ne) (same-inv rest (tail l))) (λ _ _ ne _ rule. rw (other ne) (moved-inv rest (tail l) rule)) in
         rw (ack-heard s k hears-it) (all (subst (λ (d : Sender). senderRule d ≡ true) (ack-heard s k hears-it) (reply-kept s false k (v .rule))))
 
     nack-inv : (k : ℕ) → Replies (nack k ∷ rest) → k < 16 → Inv S (told ours w (hearing (w .sender) (nack k)) rest (seenReply (w .seen) (nack k)))
-    unfolding hearing heard nacked
+    unfolding hearing
     nack-inv k l lt =
         let s = w .sender in
         let c = s .counters in
@@ -127,18 +119,12 @@ module _ (S : ℕ) (w : World ours) (v : Inv S w) where
         let hears-it : Hears s k = record { sound = up S w v h; number-lt = lt } in
         let P : Counters → Type 0 = λ d. senderRule (withCounters s d) ≡ true → Inv S (told ours w (withCounters s d) rest (seenReply g (nack k))) in
         let all : P (heard c true k) =
-        by-cases P (eqb (c .outstanding) 0)
-        (λ t _.
-        let z = eqb-true (c .outstanding) 0 t in
-        rw (unheard g (nack k) (stands g (omega arith))) (same-inv rest (tail l)))
-        (λ t.
-        let z = eqb-false (c .outstanding) 0 t in
-        by-cases (λ (d : Counters). P (toOldest d)) (eqb k (c .oldest))
-        (λ e rule.
-        let mine : k ≡ g .released % 16 = eqb-true k (c .oldest) e ∙ u .oldest in
-        rw (own-nack g h (omega arith) k mine)
+        heard-cases P c true k (λ none _. rw (unheard g (nack k) (stands g (omega arith))) (same-inv rest (tail l)))
+        (λ some _ eq rule.
+        rw (own-nack g h (omega arith) k (eq ∙ u .oldest))
         (retimed-inv S w v 0 (c .columns) 0 (c .link) 0 0 rest (omega arith) refl (tail l) rule))
-        (λ e rule. rw (other-nack g k (λ q. eqb-false k (c .oldest) e (q ∙ sym (u .oldest)))) (moved-inv rest (tail l) rule))) in
+        (λ _ _ ne rule. rw (other-nack g k (λ q. ne (q ∙ sym (u .oldest)))) (moved-inv rest (tail l) rule))
+        (λ _ q. absurd (false-is-not-true (sym q))) (λ _ q. absurd (false-is-not-true (sym q))) (λ _ q. absurd (false-is-not-true (sym q))) in
         rw (nack-heard s k hears-it) (all (subst (λ (d : Sender). senderRule d ≡ true) (nack-heard s k hears-it) (reply-kept s true k (v .rule))))
 
     heard-inv : (y : Reply) → Replies (y ∷ rest) → Inv S (told ours w (hearing (w .sender) y) rest (seenReply (w .seen) y))

@@ -1,17 +1,15 @@
 -- At every moment of our two ends, what is delivered is the first so many accepted, and the counters are what is seen from outside.
 -- Assumes nothing.
 use mathlib.Core.Path.{_≡_, refl, sym, _∙_, ap, subst}
-use mathlib.Core.Bool.{Bool, true, false, not, _&&_}
+use mathlib.Core.Bool.{Bool, true, not, _&&_}
 use mathlib.Core.List.{List, [], _∷_}
-use Prim.Native.Nat.{ℕ, _+_, _-_, _*_, _%_, _≤_, _<_}
+use Prim.Native.Nat.{ℕ}
 use native.Mathlib.Omega.{arith}
-use lib.Dec.{ltb, eqb}
-use lib.ListN.{length, set}
+use lib.Dec.{ltb}
+use lib.ListN.{set}
 use borrow.Author.Tests.{ltb-true, ltb-false, leb-true, eq-eqb, ne-eqb}
 use Rattle.laws.proofs.Cases.{by-test, first-true, second-true}
-use Rattle.retry_rules.specs.Numbers.{sizeAllowed, timeAllowed}
 use Rattle.retry_rules.specs.Fresh.{freshSender, freshReceiver, freshSenderOf, freshReceiverOf}
-use Rattle.retry_rules.specs.declared.Answered.{Answered}
 use Rattle.retry_rules.specs.declared.Sender.{Sender}
 use Rattle.retry_rules.specs.declared.Receiver.{Receiver}
 use Rattle.retry_rules.proofs.Kept.{fresh-sender-kept, fresh-receiver-kept}
@@ -19,30 +17,9 @@ use Rattle.retry_rules.proofs.Refusals.{fresh-sender-number, fresh-receiver-num
 use Rattle.retry_rules.proofs.Seen.{Begins, fresh-passes, size-passes}
 use Rattle.retry_rules.specs.States.{isUp as saysUp, isDown, senderRule, receiverRule, Eight}
 use Rattle.retry_rules.specs.Tick.{tickOf}
-use Rattle.delivery_rules.specs.Model.{
-  Item,
-  damaged,
-  Reply,
-  damaged-reply,
-  Seen,
-  isUp,
-  seenTick,
-  Event,
-  offer,
-  send,
-  arrive,
-  lose,
-  damage,
-  hear,
-  lose-reply,
-  damage-reply,
-  tick,
-  without,
-  World,
-  step,
-  run,
-  start,
-}
+use Rattle.delivery_rules.specs.Ends.{damaged, damaged-reply}
+use Rattle.delivery_rules.specs.Outside.{isUp, seenTick}
+use Rattle.delivery_rules.specs.Model.{Event, offer, send, arrive, lose, damage, hear, lose-reply, damage-reply, tick, without, World, step, run, start}
 use Rattle.delivery_rules.specs.Demand.{Allowed, FirstSoMany, Moment, at}
 use Rattle.delivery_rules.specs.Ours.{ours}
 use Rattle.delivery_rules.specs.Honest.{Honest}

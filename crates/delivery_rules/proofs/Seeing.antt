@@ -1,13 +1,14 @@
 -- What is seen from outside of a reply and of a tick, by cases.
 -- Assumes nothing.
 use mathlib.Core.Path.{_≡_, refl, sym, _∙_}
-use mathlib.Core.Bool.{Bool, true, false, cond, _&&_}
-use Prim.Native.Nat.{ℕ, _+_, _-_, _%_, _≤_, _<_}
+use mathlib.Core.Bool.{Bool, true, false, _&&_}
+use Prim.Native.Nat.{ℕ, _+_, _%_, _≤_, _<_}
 use native.Mathlib.Omega.{arith}
-use lib.Dec.{ltb, eqb}
+use lib.Dec.{ltb}
 use borrow.Author.Tests.{lt-ltb, le-ltb, eq-eqb, ne-eqb}
 use Rattle.laws.proofs.Cases.{by-cases, both-true, cond-true, cond-false, false-is-not-true}
-use Rattle.delivery_rules.specs.Model.{Reply, ack, nack, damaged-reply, Seen, isUp, outstanding, isRunning, isOldest, isLast, seenWith, seenReply, seenTick}
+use Rattle.delivery_rules.specs.Ends.{Reply, ack, nack, damaged-reply}
+use Rattle.delivery_rules.specs.Outside.{Seen, isUp, outstanding, isRunning, isOldest, isLast, seenWith, seenReply, seenTick}
 
 pub not-first : (a b : Bool) → a ≡ false → a && b ≡ false
 not-first true b q = absurd (false-is-not-true (sym q))

@@ -1,60 +1,35 @@
 -- An offer, a send, a reply and a tick of our sender keep what holds at every moment.
 -- Assumes nothing.
 use mathlib.Core.Path.{_≡_, refl, sym, _∙_, ap, subst}
-use mathlib.Core.Bool.{Bool, true, false, cond, _&&_}
+use mathlib.Core.Bool.{Bool, true, false, _&&_}
 use mathlib.Core.List.{List, [], _∷_, _++_}
-use Prim.Native.Nat.{ℕ, zero, suc, _+_, _-_, _*_, _%_, _≤_, _<_, min, max}
+use Prim.Native.Nat.{ℕ, _+_, _%_, _≤_, _<_}
 use native.Mathlib.Omega.{arith}
 use native.Mathlib.Decide.{decLt}
 use lib.Dec.{ltb, eqb}
-use lib.ListN.{length, getD, take, length-append, List·getD-append}
+use lib.ListN.{length, getD, length-append, List·getD-append}
 use lib.Seq.{take-append-le, getD-append-seam}
-use borrow.Author.Tests.{ltb-true, ltb-false, eqb-true, eqb-false, lt-ltb, le-ltb, eq-eqb, ne-eqb}
-use Rattle.laws.proofs.Cases.{by-cases, by-test, both-true, cond-true, cond-false}
-use Rattle.retry_rules.specs.declared.Counters.{Counters}
+use borrow.Author.Tests.{ltb-true, ltb-false, lt-ltb, eq-eqb, ne-eqb}
+use Rattle.laws.proofs.Cases.{by-test, both-true, cond-true, cond-false}
 use Rattle.retry_rules.specs.declared.Sender.{Sender}
 use Rattle.retry_rules.specs.States.{senderRule, slotOf, Eight}
-use Rattle.retry_rules.specs.Numbers.{amongLast}
 use Rattle.retry_rules.specs.Lent.{Content, laid, bufferAt, heldBytes, heldContent}
 use Rattle.retry_rules.specs.Offer.{freeSlot, storedIn, offerOf}
-use Rattle.retry_rules.specs.Send.{toSend, dueSlot, sendPoint, oneSent, sendOf}
-use Rattle.retry_rules.specs.Reply.{toOldest, restarted, oneReleased, acked, nacked, heard, withCounters}
-use Rattle.retry_rules.specs.Tick.{expired, fallen, ticked, tickOf}
+use Rattle.retry_rules.specs.Send.{toSend, dueSlot, sendPoint, oneSent}
 use Rattle.retry_rules.specs.Calls.{SenderCall}
 use Rattle.retry_rules.proofs.Laid.{laid-length, buffers-apart}
 use Rattle.retry_rules.proofs.Held.{stores, keeps-stored}
-use Rattle.retry_rules.proofs.Seen.{Sound, Hears, Offers}
+use Rattle.retry_rules.proofs.Seen.{Offers}
 use Rattle.retry_rules.proofs.Kept.{offer-kept, eight-after, send-kept}
-use Rattle.delivery_rules.specs.Model.{
-  Item,
-  segment,
-  damaged,
-  Reply,
-  ack,
-  nack,
-  damaged-reply,
-  Offering,
-  Sending,
-  Seen,
-  isUp,
-  outstanding,
-  isRunning,
-  goneWith,
-  seenWith,
-  seenReply,
-  seenTick,
-  World,
-  offered,
-  sent,
-  told,
-  hears,
-}
+use Rattle.delivery_rules.specs.Ends.{Item, segment, damaged, Offering, Sending}
+use Rattle.delivery_rules.specs.Outside.{outstanding, goneWith}
+use Rattle.delivery_rules.specs.Model.{World, offered, sent}
 use Rattle.delivery_rules.specs.Demand.{noContent, Good}
-use Rattle.delivery_rules.specs.Ours.{hearing, ours}
+use Rattle.delivery_rules.specs.Ours.{ours}
 use Rattle.delivery_rules.proofs.Round.{other-number, same-number}
-use Rattle.delivery_rules.proofs.Lines.{Line, weaken, lower, snoc, tail, first}
-use Rattle.delivery_rules.proofs.Calls.{taken, turnedDown, offer-either, goes, stays, send-either, ack-heard, nack-heard, damaged-heard, ticks, down-reply, down-tick}
-use Rattle.delivery_rules.proofs.Invariant.{IsItem, IsAck, IsIdle, Inv, numbers, slots-rule, up, down, retimed, retimed-inv}
+use Rattle.delivery_rules.proofs.Lines.{weaken, lower, snoc}
+use Rattle.delivery_rules.proofs.Calls.{taken, offer-either, goes, send-either}
+use Rattle.delivery_rules.proofs.Invariant.{IsItem, Inv, numbers}
 
 -- one more accepted: what stood at a place stands there
 grown : (acc : List Content) (x : Content) (a : Item) (j : ℕ) → j < length acc → IsItem acc a j → IsItem (acc ++ x ∷ []) a j

@@ -1,17 +1,17 @@
 -- Demand 3 of our two ends.
 -- Assumes nothing.
-use mathlib.Core.Path.{_≡_, refl, sym, _∙_, ap, subst}
-use mathlib.Core.Bool.{Bool, true, false}
+use mathlib.Core.Path.{_≡_, sym, _∙_}
 use mathlib.Core.List.{List, [], _∷_, _++_, map, append-assoc, append-nil}
-use Prim.Native.Nat.{ℕ, zero, suc, _+_, _-_, _*_, _≤_, _<_}
+use Prim.Native.Nat.{ℕ, _+_, _*_, _≤_, _<_}
 use native.Mathlib.Omega.{arith}
-use lib.ListN.{length, take}
+use lib.ListN.{length}
 use lib.Seq.{take-all}
 use Rattle.retry_rules.specs.declared.Sender.{Sender}
-use Rattle.retry_rules.proofs.Seen.{Offers}
 use Rattle.retry_rules.specs.Lent.{Content}
-use Rattle.delivery_rules.specs.Model.{Offering, Event, offer, stored, World, offered, step, run}
-use Rattle.delivery_rules.specs.Demand.{Good, AllGood, Moment, at, Drill, drilled, expireOnce, Recovered, Delivers}
+use Rattle.delivery_rules.specs.Ends.{Offering}
+use Rattle.delivery_rules.specs.Outside.{stored}
+use Rattle.delivery_rules.specs.Model.{offer, World, offered, step, run}
+use Rattle.delivery_rules.specs.Demand.{AllGood, at, Drill, drilled, expireOnce, Recovered, Delivers}
 use Rattle.delivery_rules.specs.Ours.{ours}
 use Rattle.delivery_rules.proofs.Calls.{offer-either}
 use Rattle.delivery_rules.proofs.Invariant.{Inv, up}

@@ -1,5 +1,5 @@
 -- Demand 3, in its own words, as a predicate over any two ends.
-use Prim.Native.Nat.{ℕ, suc, _+_, _-_, _*_, _≤_, _<_}
+use Prim.Native.Nat.{ℕ, suc, _*_, _≤_, _<_}
 use mathlib.Core.Bool.{Bool, true, cond}
 use mathlib.Core.List.{List, [], _∷_, _++_, map}
 use mathlib.Core.Path.{_≡_}
@@ -7,32 +7,9 @@ use lib.Dec.{eqb}
 use lib.ListN.{length, getD, take, replicate}
 use Rattle.retry_rules.specs.Numbers.{timeAllowed, sizeAllowed}
 use Rattle.retry_rules.specs.Lent.{Content}
-use Rattle.delivery_rules.specs.Model.{
-  Item,
-  segment,
-  damaged,
-  Ends,
-  Seen,
-  isUp,
-  outstanding,
-  stored,
-  ticksLeft,
-  seenTick,
-  Event,
-  offer,
-  send,
-  arrive,
-  lose,
-  damage,
-  hear,
-  lose-reply,
-  damage-reply,
-  tick,
-  World,
-  step,
-  run,
-  start,
-}
+use Rattle.delivery_rules.specs.Ends.{Item, segment, damaged, Ends}
+use Rattle.delivery_rules.specs.Outside.{isUp, outstanding, stored, ticksLeft, seenTick}
+use Rattle.delivery_rules.specs.Model.{Event, offer, send, arrive, lose, damage, hear, lose-reply, damage-reply, tick, World, step, run, start}
 
 abbrev pub noContent : Content
 noContent = record { channel = 0; bad = Bool.false; bytes = [] }

@@ -1,14 +1,14 @@
 -- Our counters tell the truth: what they say is what is seen from outside. The expiry count is the expiries since the last clearing, and the
 -- call that takes the link down says so.
-use Prim.Native.Nat.{ℕ, _-_, _%_, min}
-use mathlib.Core.Bool.{Bool, not, _&&_}
+use Prim.Native.Nat.{_-_, _%_, min}
+use mathlib.Core.Bool.{not, _&&_}
 use mathlib.Core.Path.{_≡_}
 use lib.ListN.{length}
 use Rattle.retry_rules.specs.declared.Sender.{Sender}
 use Rattle.retry_rules.specs.declared.Receiver.{Receiver}
 use Rattle.retry_rules.specs.States.{isUp as saysUp}
 use Rattle.retry_rules.specs.Tick.{tickOf}
-use Rattle.delivery_rules.specs.Model.{Seen, isUp, outstanding, stored, seenTick}
+use Rattle.delivery_rules.specs.Outside.{Seen, isUp, outstanding, stored, seenTick}
 
 pub record Honest (s : Sender) (r : Receiver) (g : Seen) : Type 0 where
   pub up : saysUp (s .counters) ≡ isUp g

@@ -1,3 +1,5 @@
+pub mod Ends
+pub mod Outside
 pub mod Model
 pub mod Demand
 pub mod Ours

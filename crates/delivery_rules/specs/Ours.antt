@@ -16,7 +16,7 @@ use Rattle.retry_rules.specs.Reply.{replyOf, damagedReplyOf}
 use Rattle.retry_rules.specs.Tick.{tickOf}
 use Rattle.retry_rules.specs.Arrival.{arrivalOf, arrivalOutput, damagedArrivalOf}
 use Rattle.retry_rules.specs.Lent.{Content}
-use Rattle.delivery_rules.specs.Model.{Item, segment, damaged, Reply, ack, nack, damaged-reply, Making, Offering, Sending, Arriving, Ends}
+use Rattle.delivery_rules.specs.Ends.{Item, segment, damaged, Reply, ack, nack, damaged-reply, Offering, Sending, Arriving, Ends}
 
 -- an offer is accepted if it is not refused
 abbrev pub offeringOf : Offered → List ℕ → Offering Sender

@@ -11,29 +11,9 @@ use Rattle.laws.specs.Lists.{countFrom}
 use Rattle.laws.proofs.Cases.{both-true, first-true, second-true, false-is-not-true}
 use Rattle.retry_rules.specs.Numbers.{sizeAllowed}
 use Rattle.retry_rules.specs.Lent.{Content}
-use Rattle.delivery_rules.specs.Model.{
-  Item,
-  segment,
-  damaged,
-  Ends,
-  isUp,
-  stored,
-  seenTick,
-  Event,
-  offer,
-  send,
-  arrive,
-  lose,
-  damage,
-  hear,
-  lose-reply,
-  damage-reply,
-  tick,
-  World,
-  step,
-  run,
-  start,
-}
+use Rattle.delivery_rules.specs.Ends.{Item, segment, damaged, Ends}
+use Rattle.delivery_rules.specs.Outside.{isUp, stored, seenTick}
+use Rattle.delivery_rules.specs.Model.{Event, offer, send, arrive, lose, damage, hear, lose-reply, damage-reply, tick, World, step, run, start}
 use Rattle.delivery_rules.specs.Demand.{noContent, Allowed, Moment, at, AllCalm, expireOnce, Fits, SendsEach, Drill, Delivers}
 
 -- the i-th segment: one byte, on channel 3, with the bad mark

@@ -1,9 +1,9 @@
 -- Whatever else they do or say of themselves: ends that accept no offer, never send, or deliver nothing do not meet demand 3.
 -- Assumes nothing.
 use mathlib.Core.Path.{_≡_, refl, sym, _∙_, ap, subst}
-use mathlib.Core.Bool.{Bool, true, false, cond}
-use mathlib.Core.List.{List, [], _∷_, _++_, map}
-use Prim.Native.Nat.{ℕ, _-_, _≤_, _<_}
+use mathlib.Core.Bool.{Bool, false}
+use mathlib.Core.List.{List, [], _∷_, map}
+use Prim.Native.Nat.{ℕ}
 use native.Mathlib.Omega.{arith}
 use lib.Dec.{eqb}
 use lib.ListN.{length, replicate, set}
@@ -11,33 +11,9 @@ use Rattle.laws.proofs.Cases.{by-cases}
 use Rattle.retry_rules.specs.Numbers.{sizeAllowed}
 use Rattle.retry_rules.specs.declared.Receiver.{Receiver}
 use Rattle.retry_rules.specs.Lent.{Content}
-use Rattle.delivery_rules.specs.Model.{
-  Item,
-  segment,
-  damaged,
-  Reply,
-  Ends,
-  outstanding,
-  ticksLeft,
-  Event,
-  offer,
-  send,
-  arrive,
-  lose,
-  damage,
-  hear,
-  lose-reply,
-  damage-reply,
-  tick,
-  joined,
-  without,
-  World,
-  arrives,
-  hears,
-  step,
-  run,
-  start,
-}
+use Rattle.delivery_rules.specs.Ends.{Item, segment, damaged, Reply, Ends}
+use Rattle.delivery_rules.specs.Outside.{outstanding, ticksLeft}
+use Rattle.delivery_rules.specs.Model.{Event, offer, send, arrive, lose, damage, hear, lose-reply, damage-reply, tick, joined, without, World, arrives, hears, step, run, start}
 use Rattle.delivery_rules.specs.Demand.{Good, AllGood, Allowed, Moment, at, AllCalm, expireOnce, SendsEach, Drill, drilled, Delivers}
 use Rattle.delivery_rules.proofs.Seeing.{reply-heard, tick-lists}
 use Rattle.delivery_wrong.specs.Altered.{acceptsNone, neverSends, neverSendsAndLies, onlyNacks, acksOnly, acksAndDeliversNothing, refusesArrivals}

@@ -1,6 +1,6 @@
 -- Ours with one call altered: sends the first only, stores nothing, loses the mark, delivers on another channel, writes no bytes. Each breaks in a run.
 -- Assumes nothing.
-use mathlib.Core.Path.{_≡_, refl}
+use mathlib.Core.Path.{refl}
 use mathlib.Core.Bool.{true}
 use mathlib.Core.List.{List, [], _∷_, map}
 use Rattle.retry_rules.specs.Numbers.{sizeAllowed, amongLast, countRule}
@@ -11,7 +11,8 @@ use Rattle.retry_rules.specs.Offer.{offerChecks, offerOf, offerBuffers}
 use Rattle.retry_rules.specs.Send.{sendChecks, sendOf, sendOutput}
 use Rattle.retry_rules.specs.Reply.{acked, nacked, heard, senderChecks, replyChecks, replyOf}
 use Rattle.retry_rules.specs.Arrival.{arrivalChecks, answerTo, arrivalOf, arrivalOutput}
-use Rattle.delivery_rules.specs.Model.{goneWith, seenReply, Event, offer, send, arrive, step, run}
+use Rattle.delivery_rules.specs.Outside.{goneWith, seenReply}
+use Rattle.delivery_rules.specs.Model.{Event, offer, send, arrive, step, run}
 use Rattle.delivery_rules.specs.Demand.{expireOnce, Delivers}
 use Rattle.delivery_rules.specs.Ours.{hearing, arriving}
 use Rattle.delivery_wrong.specs.Altered.{sendsTheFirst, storesNothing, losesTheMark, anotherChannel, writesNothing}

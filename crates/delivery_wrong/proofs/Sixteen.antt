@@ -1,11 +1,11 @@
 -- Ends that use all sixteen numbers at once: a run without loss or damage in which segment 0 is delivered twice and segment 16 never.
 -- Assumes nothing.
 use mathlib.Core.Path.{_≡_, refl}
-use mathlib.Core.Bool.{Bool, true}
+use mathlib.Core.Bool.{true}
 use mathlib.Core.List.{List, [], _∷_, _++_, map}
-use Prim.Native.Nat.{ℕ}
 use Rattle.retry_rules.specs.Numbers.{amongLast}
-use Rattle.delivery_rules.specs.Model.{goneWith, seenReply, seenTick, stored, Event, offer, send, arrive, hear, tick, step, run}
+use Rattle.delivery_rules.specs.Outside.{goneWith, seenReply, seenTick, stored}
+use Rattle.delivery_rules.specs.Model.{Event, offer, send, arrive, hear, tick, step, run}
 use Rattle.delivery_rules.specs.Demand.{Delivers}
 use Rattle.delivery_wrong.specs.Plain.{plainOffer, plainSend, plainHear, plainTick, plainArrive, sixteen}
 use Rattle.delivery_wrong.proofs.ByRun.{nth, segments, times, output, after, breaksSafety, unsafe}

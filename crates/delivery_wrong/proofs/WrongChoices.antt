@@ -2,15 +2,17 @@
 -- a run against each.
 -- Assumes nothing.
 use mathlib.Core.Path.{_≡_, refl}
-use mathlib.Core.Bool.{Bool, true, false}
+use mathlib.Core.Bool.{true, false}
 use mathlib.Core.List.{List, [], _∷_, _++_, map}
 use Prim.Native.Nat.{ℕ}
-use lib.Dec.{T, eqb}
+use lib.Dec.{T}
 use Rattle.laws.specs.Lists.{allOf, oneOf, countFrom}
 use Rattle.laws.proofs.Bools.{T-true}
 use Rattle.laws.proofs.Listed.{one-of-all}
 use Rattle.retry_rules.specs.Numbers.{amongLast}
-use Rattle.delivery_rules.specs.Model.{segment, goneWith, seenReply, seenTick, Event, offer, send, arrive, lose, hear, lose-reply, tick, step, run}
+use Rattle.delivery_rules.specs.Ends.{segment}
+use Rattle.delivery_rules.specs.Outside.{goneWith, seenReply, seenTick}
+use Rattle.delivery_rules.specs.Model.{Event, offer, send, arrive, lose, hear, lose-reply, tick, step, run}
 use Rattle.delivery_rules.specs.Demand.{expireOnce, Delivers}
 use Rattle.delivery_wrong.specs.Plain.{plainOffer, plainSend, plainHear, plainTick, plainArrive, right, wide, leftBehind, usedAgain, coversEarlier, falseCount}
 use Rattle.delivery_wrong.proofs.ByRun.{nth, segments, times, output, round, after, checked, breaksSafety, unsafe, breaksRecovery, unrecovered, recoversHere}

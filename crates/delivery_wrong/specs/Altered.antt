@@ -3,14 +3,13 @@ use Prim.Native.Nat.{ℕ, _+_}
 use mathlib.Core.Bool.{Bool, true, false, cond}
 use mathlib.Core.List.{List, []}
 use lib.Dec.{eqb}
-use lib.ListN.{length}
 use Rattle.retry_rules.specs.declared.Counters.{Counters}
 use Rattle.retry_rules.specs.declared.Sender.{Sender}
 use Rattle.retry_rules.specs.declared.Receiver.{Receiver}
 use Rattle.retry_rules.specs.Send.{oneSent}
 use Rattle.retry_rules.specs.Arrival.{advanced}
 use Rattle.retry_rules.specs.Lent.{Content}
-use Rattle.delivery_rules.specs.Model.{Item, segment, damaged, Reply, ack, nack, Offering, Sending, Arriving, Ends}
+use Rattle.delivery_rules.specs.Ends.{Item, segment, damaged, Reply, ack, nack, Offering, Sending, Arriving, Ends}
 use Rattle.delivery_rules.specs.Demand.{noContent}
 use Rattle.delivery_rules.specs.Ours.{ours}
 

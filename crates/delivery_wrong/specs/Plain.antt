@@ -2,12 +2,12 @@
 -- `right` makes them by the rules; each wrong end is one other choice.
 use Prim.Native.Nat.{ℕ, _+_, _-_, _%_, min, max}
 use mathlib.Core.Bool.{Bool, true, false, not, cond, _&&_, _||_}
-use mathlib.Core.List.{List, []}
+use mathlib.Core.List.{List}
 use lib.Dec.{ltb, eqb}
 use lib.ListN.{getD, set, replicate}
 use Rattle.retry_rules.specs.Numbers.{amongLast}
 use Rattle.retry_rules.specs.Lent.{Content}
-use Rattle.delivery_rules.specs.Model.{Item, segment, damaged, Reply, ack, nack, damaged-reply, Offering, Sending, Arriving, Ends}
+use Rattle.delivery_rules.specs.Ends.{Item, segment, damaged, Reply, ack, nack, damaged-reply, Offering, Sending, Arriving, Ends}
 use Rattle.delivery_rules.specs.Demand.{noContent}
 
 pub record Choice : Type 0 where
