@@ -1,128 +1,19 @@
--- Of any two ends: the drill can be carried out from every world, and it offers nothing.
+-- Of any two ends: the drill can be carried out from every moment.
 -- Assumes nothing.
 use mathlib.Core.Path.{_≡_, refl, sym, _∙_, ap, subst}
 use mathlib.Core.Bool.{Bool, true, false}
 use mathlib.Core.List.{List, [], _∷_}
 use Prim.Native.Nat.{ℕ, zero, suc, _+_, _-_, _≤_}
 use native.Mathlib.Omega.{arith}
-use lib.Dec.{eqb}
-use lib.ListN.{length, getD, replicate}
-use Rattle.laws.proofs.Cases.{by-cases}
+use lib.ListN.{length, getD}
 use Rattle.delivery_rules.specs.Ends.{Item, segment, damaged, Reply, Ends}
-use Rattle.delivery_rules.specs.Outside.{seenReply, outstanding, ticksLeft}
-use Rattle.delivery_rules.specs.Model.{Event, offer, send, arrive, lose, damage, hear, lose-reply, damage-reply, tick, World, sent, arrived, arrives, told, hears, joined, step, run}
-use Rattle.delivery_rules.proofs.Seeing.{reply-heard, tick-lists}
-use Rattle.delivery_rules.proofs.Ordered.{Ordered, run-ordered, moment-ordered}
-use Rattle.delivery_rules.specs.Demand.{noContent, Moment, at, Empty, Calm, AllCalm, expireOnce, Fits, SendsEach, Drill}
+use Rattle.delivery_rules.specs.Outside.{seenReply}
+use Rattle.delivery_rules.specs.Model.{Event, send, arrive, hear, World, sent, arrived, arrives, told, hears, joined, step, run}
+use Rattle.delivery_rules.proofs.Calms.{hears-calm, arrives-calm, expired}
+use Rattle.delivery_rules.proofs.Ordered.{run-ordered, moment-ordered}
+use Rattle.delivery_rules.specs.Demand.{noContent, Moment, at, Empty, AllCalm, expireOnce, Fits, SendsEach, Drill}
 
 module _ (E : Ends) where
-  hears-accepted : (w : World E) (l : List Reply) → hears E w l .seen .accepted ≡ w .seen .accepted
-  hears-accepted w [] = refl
-  hears-accepted w (y ∷ l) = reply-heard (w .seen) y .lists .accepted
-
-  arrives-accepted : (w : World E) (room : Bool) (output : List ℕ) (l : List Item) → arrives E w room output l .seen .accepted ≡ w .seen .accepted
-  arrives-accepted w room output [] = refl
-  arrives-accepted w room output (i ∷ l) = refl
-
-  calm-step : (e : Event) (w : World E) → Calm E e w → step E e w .seen .accepted ≡ w .seen .accepted
-  unfolding step
-  calm-step (offer x) w c = absurd c
-  calm-step (send output) w c = refl
-  calm-step (arrive room output) w c = arrives-accepted w room output (w .forward)
-  calm-step (lose n) w c = refl
-  calm-step (damage n) w c = refl
-  calm-step hear w c = hears-accepted w (w .backward)
-  calm-step (lose-reply n) w c = refl
-  calm-step (damage-reply n) w c = refl
-  calm-step tick w c = tick-lists (w .seen) .accepted
-
-  -- emptying the lines offers nothing, nor does the expiry, nor the sending
-  pub calm-run : (es : List Event) (w : World E) → AllCalm E es w → run E es w .seen .accepted ≡ w .seen .accepted
-  unfolding run AllCalm
-  calm-run [] w c = refl
-  calm-run (e ∷ es) w c = calm-run es (step E e w) (c .1) ∙ calm-step e w (c .0)
-
-  ticks-run : (n : ℕ) (w : World E) → run E (replicate n tick) w .seen .accepted ≡ w .seen .accepted
-  unfolding run step
-  ticks-run zero w = refl
-  ticks-run (suc n) w = ticks-run n (step E tick w) ∙ tick-lists (w .seen) .accepted
-
-  ticks-empty : (n : ℕ) (w : World E) → Empty E w → Empty E (run E (replicate n tick) w)
-  unfolding run step
-  ticks-empty zero w e = e
-  ticks-empty (suc n) w e = ticks-empty n (step E tick w) e
-
-  -- an expiry leaves what was accepted and the empty lines
-  pub record Expired (w v : World E) : Type 0 where
-    pub accepted : v .seen .accepted ≡ w .seen .accepted
-    empty : Empty E w → Empty E v
-    ordered : Ordered (w .seen) → Ordered (v .seen)
-
-  pub expired : (w : World E) → Expired w (expireOnce E w)
-  unfolding expireOnce
-  expired w =
-      by-cases (Expired w) (eqb (outstanding (w .seen)) 0) (λ _. record { accepted = refl; empty = λ e. e; ordered = λ o. o })
-      (λ _. record {
-        accepted = ticks-run (ticksLeft (w .seen)) w;
-        empty = ticks-empty (ticksLeft (w .seen)) w;
-        ordered = run-ordered E (replicate (ticksLeft (w .seen)) tick) w;
-      })
-
-  pub sends-accepted : (es : List Event) (j : ℕ) (w : World E) → SendsEach E j es w → run E es w .seen .accepted ≡ w .seen .accepted
-  unfolding run step SendsEach
-  sends-accepted [] j w c = refl
-  sends-accepted (send output ∷ es) j w c = sends-accepted es (suc j) (step E (send output) w) (c .1)
-  sends-accepted (arrive room output ∷ es) j w c =
-      sends-accepted es j (step E (arrive room output) w) (c .2) ∙ arrives-accepted w room output (w .forward)
-  sends-accepted (hear ∷ es) j w c = sends-accepted es j (step E hear w) c ∙ hears-accepted w (w .backward)
-  sends-accepted (tick ∷ es) j w c = sends-accepted es j (step E tick w) (c .1) ∙ tick-lists (w .seen) .accepted
-  sends-accepted (offer x ∷ es) j w c = absurd c
-  sends-accepted (lose n ∷ es) j w c = absurd c
-  sends-accepted (damage n ∷ es) j w c = absurd c
-  sends-accepted (lose-reply n ∷ es) j w c = absurd c
-  sends-accepted (damage-reply n ∷ es) j w c = absurd c
-
-  -- no more are sent than were accepted
-  pub sends-le : (es : List Event) (j : ℕ) (w : World E) → SendsEach E j es w → j ≤ length (w .seen .accepted)
-  unfolding step SendsEach
-  sends-le [] j w c = omega (arith, c .0)
-  sends-le (send output ∷ es) j w c = omega (arith, sends-le es (suc j) (step E (send output) w) (c .1))
-  sends-le (arrive room output ∷ es) j w c =
-      omega (arith, sends-le es j (step E (arrive room output) w) (c .2), ap length (arrives-accepted w room output (w .forward)))
-  sends-le (hear ∷ es) j w c = omega (arith, sends-le es j (step E hear w) c, ap length (hears-accepted w (w .backward)))
-  sends-le (tick ∷ es) j w c = omega (arith, sends-le es j (step E tick w) (c .1), ap length (tick-lists (w .seen) .accepted))
-  sends-le (offer x ∷ es) j w c = absurd c
-  sends-le (lose n ∷ es) j w c = absurd c
-  sends-le (damage n ∷ es) j w c = absurd c
-  sends-le (lose-reply n ∷ es) j w c = absurd c
-  sends-le (damage-reply n ∷ es) j w c = absurd c
-
-  -- emptying the lines counts no expiry
-  hears-expiries : (w : World E) (l : List Reply) → hears E w l .seen .expiries ≤ w .seen .expiries
-  hears-expiries w [] = omega arith
-  hears-expiries w (y ∷ l) = reply-heard (w .seen) y .expiries
-
-  arrives-expiries : (w : World E) (room : Bool) (output : List ℕ) (l : List Item) → arrives E w room output l .seen .expiries ≤ w .seen .expiries
-  arrives-expiries w room output [] = omega arith
-  arrives-expiries w room output (i ∷ l) = omega arith
-
-  calm-expiry : (e : Event) (w : World E) → Calm E e w → step E e w .seen .expiries ≤ w .seen .expiries
-  unfolding step
-  calm-expiry (offer x) w c = absurd c
-  calm-expiry (send output) w c = omega arith
-  calm-expiry (arrive room output) w c = arrives-expiries w room output (w .forward)
-  calm-expiry (lose n) w c = omega arith
-  calm-expiry (damage n) w c = omega arith
-  calm-expiry hear w c = hears-expiries w (w .backward)
-  calm-expiry (lose-reply n) w c = omega arith
-  calm-expiry (damage-reply n) w c = omega arith
-  calm-expiry tick w c = omega (arith, c)
-
-  pub calm-expiries : (es : List Event) (w : World E) → AllCalm E es w → run E es w .seen .expiries ≤ w .seen .expiries
-  unfolding run AllCalm
-  calm-expiries [] w c = omega arith
-  calm-expiries (e ∷ es) w c = omega (arith, calm-expiries es (step E e w) (c .1), calm-expiry e w (c .0))
-
   -- a run that empties both lines: each of the one line arrives, then each of the other
   record Emptied (w : World E) : Type 0 where
     events : List Event
@@ -210,7 +101,8 @@ module _ (E : Ends) where
     round-accepted : after-reply .seen .accepted ≡ w .seen .accepted
     unfolding after-reply after-arrival after-send step
     round-accepted =
-        hears-accepted after-arrival (after-arrival .backward) ∙ arrives-accepted after-send true into (after-send .forward)
+        hears-calm E after-arrival (after-arrival .backward) .accepted
+        ∙ arrives-calm E after-send true into (after-send .forward) .accepted
 
   send-all : (k j : ℕ) (w : World E) → Empty E w → k + j ≡ length (w .seen .accepted) → Sent j w
   unfolding SendsEach out into after-reply after-arrival after-send
@@ -229,7 +121,7 @@ module _ (E : Ends) where
       let r = arrive-all (w .forward) w refl in
       let u = run E (r .events) w in
       let v = expireOnce E u in
-      let o = expired u .ordered (run-ordered E (r .events) w (moment-ordered E m)) in
+      let o = expired E u .ordered (run-ordered E (r .events) w (moment-ordered E m)) in
       let left : ℕ = length (v .seen .accepted) - v .seen .released in
-      let s = send-all left (v .seen .released) v (expired u .empty (r .empty)) (omega arith) in
+      let s = send-all left (v .seen .released) v (expired E u .empty (r .empty)) (omega arith) in
       record { emptying = r .events; calm = r .calm; empty = r .empty; sending = s .events; each = s .each }

@@ -1,5 +1,6 @@
 pub mod Ordered
 pub mod Seeing
+pub mod Calms
 pub mod Drills
 pub mod Round
 pub mod Lines

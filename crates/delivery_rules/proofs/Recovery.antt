@@ -32,7 +32,7 @@ use Rattle.delivery_rules.proofs.Calls.{goes, send-either, arrive-eithe
 use Rattle.delivery_rules.proofs.Invariant.{IsItem, IsAck, Inv, numbers, slots-rule, up}
 use Rattle.delivery_rules.proofs.SenderSteps.{due-is}
 use Rattle.delivery_rules.proofs.Safety.{step-inv}
-use Rattle.delivery_rules.proofs.Drills.{sends-le}
+use Rattle.delivery_rules.proofs.Calms.{sends-le}
 
 -- the j-th accepted segment is the next to go, the b-th the next to arrive; the replies on their way are the ACKs of all before it that are not released
 pub record Resending (S j : ℕ) (w : World ours) : Type 0 where

@@ -16,7 +16,8 @@ use Rattle.delivery_rules.specs.Ours.{ours}
 use Rattle.delivery_rules.proofs.Calls.{offer-either}
 use Rattle.delivery_rules.proofs.Invariant.{Inv, up}
 use Rattle.delivery_rules.proofs.Safety.{sender-begins, receiver-begins, step-inv, run-inv, moment-inv, first-so-many}
-use Rattle.delivery_rules.proofs.Drills.{calm-run, calm-expiries, expired, sends-accepted, can-drill}
+use Rattle.delivery_rules.proofs.Calms.{calm-run, sends-calm, expired}
+use Rattle.delivery_rules.proofs.Drills.{can-drill}
 use Rattle.delivery_rules.proofs.Recovery.{Finished, sent-each}
 use Rattle.delivery_rules.proofs.Expiry.{expires-once}
 
@@ -60,11 +61,12 @@ recovered S before after f same =
 drill-recovers : (S : ℕ) (w : World ours) → Inv S w → w .seen .expiries < 2 → (d : Drill ours w) → Recovered ours S w (drilled ours w d)
 drill-recovers S w v x d =
     let emptied = run ours (d .emptying) w in
-    let few : emptied .seen .expiries < 2 = omega (arith, calm-expiries ours (d .emptying) w (d .calm)) in
-    let r = expires-once S emptied (run-inv S (d .emptying) w v) (d .empty) few in
+    let calm = calm-run ours (d .emptying) w (d .calm) in
     let ready = expireOnce ours emptied in
-    recovered S w (drilled ours w d) (sent-each S (d .sending) (ready .seen .released) ready (d .each) r)
-    (sends-accepted ours (d .sending) (ready .seen .released) ready (d .each) ∙ expired ours emptied .accepted ∙ calm-run ours (d .emptying) w (d .calm))
+    let again = expires-once S emptied (run-inv S (d .emptying) w v) (d .empty) (omega (arith, calm .expiries)) in
+    let sends = calm-run ours (d .sending) ready (sends-calm ours (d .sending) (ready .seen .released) ready (d .each)) in
+    recovered S w (drilled ours w d) (sent-each S (d .sending) (ready .seen .released) ready (d .each) again)
+    (sends .accepted ∙ expired ours emptied .accepted ∙ calm .accepted)
 
 pub delivers : Delivers ours
 delivers =
