@@ -60,6 +60,7 @@ pub record Follows (r : Receiver) (g : Seen) : Type 0 where
   pub high : length (g .delivered) ≤ g .gone
 
 pub record Inv (S : ℕ) (w : World ours) : Type 0 where
+  -- both states keep their rules, and both ends have the same S
   pub rule : senderRule (w .sender) ≡ true
   pub eight : Eight (w .sender)
   pub size : w .sender .counters .size ≡ S
@@ -68,11 +69,13 @@ pub record Inv (S : ℕ) (w : World ours) : Type 0 where
   pub receiver-size : w .receiver .size ≡ S
   pub counts : Counts (w .sender .counters) (w .seen)
   pub follows : Follows (w .receiver) (w .seen)
+  -- what is delivered is the first so many accepted; each accepted segment is good, and a stored one stands in its buffer
   pub prefix : w .seen .delivered ≡ take (length (w .seen .delivered)) (w .seen .accepted)
   pub good : (j : ℕ) → j < length (w .seen .accepted) → Good S (getD (w .seen .accepted) j noContent)
   pub holds-it :
       (i : ℕ) → i < w .sender .counters .stored
       → heldContent (w .sender) (w .buffers) (slotOf (w .sender .counters) i) ≡ getD (w .seen .accepted) (w .seen .released + i) noContent
+  -- what stands on each line is near to what is delivered, and to what is released
   pub items : Line (IsItem (w .seen .accepted)) IsDamaged (w .seen .gone) (length (w .seen .delivered)) (w .forward)
   pub replies : Line IsAck IsIdle (length (w .seen .delivered)) (w .seen .released) (w .backward)
 

@@ -1,7 +1,7 @@
 -- Of any two ends: no more is released than has gone out, and no more has gone out than was accepted.
 -- Assumes nothing.
 use mathlib.Core.Path.{_≡_}
-use mathlib.Core.Bool.{Bool, true, false, cond, _&&_}
+use mathlib.Core.Bool.{Bool, true, false, cond}
 use mathlib.Core.List.{List, [], _∷_}
 use Prim.Native.Nat.{ℕ, _+_, _%_, _≤_, _<_}
 use native.Mathlib.Omega.{arith}
@@ -10,7 +10,7 @@ use lib.Dec.{ltb, eqb}
 use lib.ListN.{length, length-append}
 use Rattle.laws.proofs.Cases.{by-cases, first-true, second-true}
 use Rattle.delivery_rules.specs.Ends.{Item, Reply, ack, nack, damaged-reply, Ends}
-use Rattle.delivery_rules.specs.Outside.{Seen, isUp, outstanding, isRunning, isOldest, isLast, goneWith, seenWith, seenReply, seenTick}
+use Rattle.delivery_rules.specs.Outside.{isNext, Seen, isUp, outstanding, isRunning, isOldest, isLast, goneWith, seenWith, seenReply, seenTick}
 use Rattle.delivery_rules.specs.Model.{Event, offer, send, arrive, lose, damage, hear, lose-reply, damage-reply, tick, joined, World, arrives, hears, step, run}
 use Rattle.delivery_rules.specs.Demand.{Moment, at}
 
@@ -51,7 +51,7 @@ unfolding goneWith
 gone-ordered g b k o =
     let P : ℕ → Type 0 = λ n. (g .gone ≤ n) × (n ≤ length (g .accepted)) in
     by-cases P b
-    (λ _. by-cases P (ltb (g .gone) (length (g .accepted)) && eqb k (g .gone % 16))
+    (λ _. by-cases P (isNext g k)
     (λ t.
     let lt = ltb-true (g .gone) (length (g .accepted)) (first-true (ltb (g .gone) (length (g .accepted))) (eqb k (g .gone % 16)) t) in
     omega arith)

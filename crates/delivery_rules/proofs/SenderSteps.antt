@@ -1,7 +1,7 @@
--- An offer, a send, a reply and a tick of our sender keep what holds at every moment.
+-- An offer and a send of our sender keep what holds at every moment.
 -- Assumes nothing.
-use mathlib.Core.Path.{_≡_, refl, sym, _∙_, ap, subst}
-use mathlib.Core.Bool.{Bool, true, false, _&&_}
+use mathlib.Core.Path.{_≡_, sym, _∙_, ap, subst}
+use mathlib.Core.Bool.{true}
 use mathlib.Core.List.{List, [], _∷_, _++_}
 use Prim.Native.Nat.{ℕ, _+_, _%_, _≤_, _<_}
 use native.Mathlib.Omega.{arith}
@@ -22,12 +22,13 @@ use Rattle.retry_rules.proofs.Held.{stores, keeps-stored}
 use Rattle.retry_rules.proofs.Seen.{Offers}
 use Rattle.retry_rules.proofs.Kept.{offer-kept, eight-after, send-kept}
 use Rattle.delivery_rules.specs.Ends.{Item, segment, damaged, Offering, Sending}
-use Rattle.delivery_rules.specs.Outside.{outstanding, goneWith}
+use Rattle.delivery_rules.specs.Outside.{isNext, outstanding, goneWith}
 use Rattle.delivery_rules.specs.Model.{World, offered, sent}
 use Rattle.delivery_rules.specs.Demand.{noContent, Good}
 use Rattle.delivery_rules.specs.Ours.{ours}
 use Rattle.delivery_rules.proofs.Round.{other-number, same-number}
 use Rattle.delivery_rules.proofs.Lines.{weaken, lower, snoc}
+use Rattle.delivery_rules.proofs.Seeing.{not-second}
 use Rattle.delivery_rules.proofs.Calls.{taken, offer-either, goes, send-either}
 use Rattle.delivery_rules.proofs.Invariant.{IsItem, Inv, numbers}
 
@@ -117,24 +118,19 @@ module _ (S : ℕ) (w : World ours) (v : Inv S w) where
       let u = v .counts in
       let lt = ltb-true (c .point) (c .stored) t in
       let few : c .outstanding ≤ 8 = omega arith in
-      let more = ltb (g .gone) (length (g .accepted)) in
       by-test (ltb (c .point) (c .outstanding))
       (λ p.
       let again = ltb-true (c .point) (c .outstanding) p in
       let no = ne-eqb (sendPoint c) (g .gone % 16) (λ q. other-number (g .released) (c .point) (c .outstanding) again few
       (ap (λ (k : ℕ). (k + c .point) % 16) (sym (u .oldest)) ∙ q ∙ ap (λ (k : ℕ). k % 16) (u .outstanding))) in
-      cond-false (more && eqb (sendPoint c) (g .gone % 16)) (g .gone + 1) (g .gone) (and-false more (eqb (sendPoint c) (g .gone % 16)) no) ∙ omega arith)
+      cond-false (isNext g (sendPoint c)) (g .gone + 1) (g .gone) (not-second (ltb (g .gone) (length (g .accepted))) _ no) ∙ omega arith)
       (λ p.
       let next = ltb-false (c .point) (c .outstanding) p in
       let at : c .point ≡ c .outstanding = omega arith in
       let yes = eq-eqb (sendPoint c) (g .gone % 16) (ap (λ (k : ℕ). (k + c .point) % 16) (u .oldest) ∙ same-number (g .released) (c .point) ∙ ap (λ (k : ℕ). (g .released + k) % 16) at ∙ ap (λ (k : ℕ). k % 16) (sym (u .outstanding))) in
-      cond-true (more && eqb (sendPoint c) (g .gone % 16)) (g .gone + 1) (g .gone)
-      (both-true more (eqb (sendPoint c) (g .gone % 16)) (lt-ltb (g .gone) (length (g .accepted)) (omega arith)) yes)
+      cond-true (isNext g (sendPoint c)) (g .gone + 1) (g .gone)
+      (both-true (ltb (g .gone) (length (g .accepted))) _ (lt-ltb (g .gone) (length (g .accepted)) (omega arith)) yes)
       ∙ omega arith)
-    where
-      and-false : (a b : Bool) → b ≡ false → a && b ≡ false
-      and-false true b q = q
-      and-false false b q = refl
 
   -- the segment at the send point is one that was accepted
   pub due-is :

@@ -45,10 +45,12 @@ isLast g = eqb (g .ticks + 1) (g .columns)
 abbrev pub ticksLeft : Seen → ℕ
 ticksLeft g = g .columns - g .ticks
 
--- how many different segments have gone out once the number k has: the next one, if k is its number
+-- a send with the number k is of the next segment that has not gone out, if there is one; any other is of one that has
+abbrev pub isNext : Seen → ℕ → Bool
+isNext g k = ltb (g .gone) (length (g .accepted)) && eqb k (g .gone % 16)
+
 unfoldable pub goneWith : Seen → ℕ → ℕ
-goneWith g k =
-    cond (ltb (g .gone) (length (g .accepted)) && eqb k (g .gone % 16)) (g .gone + 1) (g .gone)
+goneWith g k = cond (isNext g k) (g .gone + 1) (g .gone)
 
 abbrev pub seenWith : Seen → ℕ → ℕ → ℕ → ℕ → Seen
 seenWith g gone released ticks expiries =
