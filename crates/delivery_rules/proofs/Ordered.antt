@@ -53,7 +53,7 @@ gone-ordered g b k o =
     by-cases P b
     (λ _. by-cases P (isNext g k)
     (λ t.
-    let lt = ltb-true (g .gone) (length (g .accepted)) (first-true (ltb (g .gone) (length (g .accepted))) (eqb k (g .gone % 16)) t) in
+    let lt = ltb-true (g .gone) (length (g .accepted)) (first-true (ltb (g .gone) (length (g .accepted))) _ t) in
     omega arith)
     (λ _. omega arith))
     (λ _. omega arith)

@@ -134,31 +134,32 @@ module _ (E : Ends) where
       let same : a ≡ b = ap (λ (l : List Content). digest l i) (d .safe (moment es) (first-true (isUp g) _ q)) in
       eqb-false a b (not-true (eqb a b) (second-true (isUp g) _ q)) same
 
-  -- the link is up with fewer than two expiries, both lines are empty, the events are a drill, and after it not all is delivered or something is stored
-  unfoldable pub breaksRecovery : List Event → List Event → Bool
-  breaksRecovery es fs =
-      let w = after es in
+  -- all is delivered and nothing stored
+  abbrev complete : World E → World E → Bool
+  complete w end = eqb (length (end .seen .delivered)) (length (w .seen .accepted)) && eqb (stored (end .seen)) 0
+
+  -- at a world the link is up with fewer than two expiries, both lines are empty, the events are a drill, and after it not all is delivered or
+  -- something is stored
+  unfoldable pub breaksAt : World E → List Event → Bool
+  breaksAt w fs =
       let ready = expireOnce E w in
-      let end = run E fs ready in
       isUp (w .seen)
       && (ltb (w .seen .expiries) 2
       && (none (w .forward)
-      && (none (w .backward)
-      && (checked (ready .seen .released) fs ready
-      && not (eqb (length (end .seen .delivered)) (length (w .seen .accepted)) && eqb (stored (end .seen)) 0)))))
+      && (none (w .backward) && (checked (ready .seen .released) fs ready && not (complete w (run E fs ready))))))
+
+  unfoldable pub breaksRecovery : List Event → List Event → Bool
+  breaksRecovery es fs = breaksAt (after es) fs
 
   -- the same, but all is delivered and nothing stored
   unfoldable pub recoversHere : List Event → List Event → Bool
   recoversHere es fs =
-      let w = after es in
-      let ready = expireOnce E w in
-      let end = run E fs ready in
-      checked (ready .seen .released) fs ready
-      && (eqb (length (end .seen .delivered)) (length (w .seen .accepted)) && eqb (stored (end .seen)) 0)
+      let ready = expireOnce E (after es) in
+      checked (ready .seen .released) fs ready && complete (after es) (run E fs ready)
 
-  pub unrecovered : (es fs : List Event) → breaksRecovery es fs ≡ true → Delivers E → ⊥
-  unfolding breaksRecovery run AllCalm
-  unrecovered es fs q d =
+  pub unrecovered-at : (es fs : List Event) → breaksAt (after es) fs ≡ true → Delivers E → ⊥
+  unfolding breaksAt run AllCalm
+  unrecovered-at es fs q d =
       let w = after es in
       let ready = expireOnce E w in
       let end = run E fs ready in
@@ -179,5 +180,15 @@ module _ (E : Ends) where
       let all = eq-eqb (length (end .seen .delivered)) (length (w .seen .accepted)) (ap length (r .all)) in
       let none-stored = eq-eqb (stored (end .seen)) 0 (r .none-stored) in
       false-is-not-true
-      (sym (not-true _ q₅)
+      (sym (not-true (complete w end) q₅)
       ∙ both-true (eqb (length (end .seen .delivered)) (length (w .seen .accepted))) (eqb (stored (end .seen)) 0) all none-stored)
+
+  pub unrecovered : (es fs : List Event) → breaksRecovery es fs ≡ true → Delivers E → ⊥
+  unfolding breaksRecovery
+  unrecovered es fs q = unrecovered-at es fs q
+
+  -- a run in two parts
+  pub run-append : (es fs : List Event) (w : World E) → run E (es ++ fs) w ≡ run E fs (run E es w)
+  unfolding run
+  run-append [] fs w = refl
+  run-append (e ∷ es) fs w = run-append es fs (step E e w)

@@ -16,11 +16,11 @@ use Rattle.delivery_rules.specs.Model.{Event, offer, send, arrive, step, run}
 use Rattle.delivery_rules.specs.Demand.{expireOnce, Delivers}
 use Rattle.delivery_rules.specs.Ours.{hearing, arriving}
 use Rattle.delivery_wrong.specs.Altered.{sendsTheFirst, storesNothing, losesTheMark, anotherChannel, writesNothing}
-use Rattle.delivery_wrong.proofs.ByRun.{nth, segments, times, output, round, checked, breaksSafety, unsafe, breaksRecovery, unrecovered}
+use Rattle.delivery_wrong.proofs.ByRun.{nth, segments, times, output, round, checked, breaksSafety, unsafe, breaksAt, breaksRecovery, unrecovered}
 
 -- two are offered; each is to be sent once, with its reply; only the first is delivered
 pub sends-the-first-refused : Delivers sendsTheFirst → ⊥
-unfolding breaksRecovery run step expireOnce goneWith seenReply checked hearing arriving sizeAllowed amongLast countRule linkRule timerRule windowRule countersRule slotRule slotsRule senderRule receiverRule laid heldBytes freshChecks freshSenderOf sizeChecks freshReceiverOf offerChecks offerOf offerBuffers sendChecks sendOf sendOutput acked nacked heard senderChecks replyChecks replyOf arrivalChecks answerTo arrivalOf arrivalOutput
+unfolding breaksRecovery breaksAt run step expireOnce goneWith seenReply checked hearing arriving sizeAllowed amongLast countRule linkRule timerRule windowRule countersRule slotRule slotsRule senderRule receiverRule laid heldBytes freshChecks freshSenderOf sizeChecks freshReceiverOf offerChecks offerOf offerBuffers sendChecks sendOf sendOutput acked nacked heard senderChecks replyChecks replyOf arrivalChecks answerTo arrivalOf arrivalOutput
 sends-the-first-refused = unrecovered sendsTheFirst (map offer (segments 0 2)) (times 2 round) refl
 
 -- one is offered, sent and delivered; what is delivered is not what was accepted

@@ -1,35 +1,16 @@
--- A window of nine or more, a send point that stays behind, a buffer used again too early, an ACK that covers earlier ones, a false expiry count:
--- a run against each.
+-- A send point that stays behind, a buffer used again too early, an ACK that covers earlier ones, a false expiry count: a run against each.
 -- Assumes nothing.
 use mathlib.Core.Path.{_≡_, refl}
 use mathlib.Core.Bool.{true, false}
 use mathlib.Core.List.{List, [], _∷_, _++_, map}
-use Prim.Native.Nat.{ℕ}
-use lib.Dec.{T}
-use Rattle.laws.specs.Lists.{allOf, oneOf, countFrom}
-use Rattle.laws.proofs.Bools.{T-true}
-use Rattle.laws.proofs.Listed.{one-of-all}
 use Rattle.retry_rules.specs.Numbers.{amongLast}
 use Rattle.delivery_rules.specs.Ends.{segment}
 use Rattle.delivery_rules.specs.Outside.{goneWith, seenReply, seenTick}
 use Rattle.delivery_rules.specs.Model.{Event, offer, send, arrive, lose, hear, lose-reply, tick, step, run}
 use Rattle.delivery_rules.specs.Demand.{expireOnce, Delivers}
-use Rattle.delivery_wrong.specs.Plain.{plainOffer, plainSend, plainHear, plainTick, plainArrive, right, wide, leftBehind, usedAgain, coversEarlier, falseCount}
-use Rattle.delivery_wrong.proofs.ByRun.{nth, segments, times, output, round, after, checked, breaksSafety, unsafe, breaksRecovery, unrecovered, recoversHere}
-
--- nine are sent and delivered and their ACKs lost: the oldest is no longer one of the last eight, so it is answered with NACK for ever
-abbrev pub nineLost : List Event
-nineLost = map offer (segments 0 9) ++ times 9 (send output ∷ []) ++ times 9 (arrive true output ∷ []) ++ times 9 (lose-reply 0 ∷ [])
-
-stuck : T (allOf (λ n. breaksRecovery (wide n) nineLost (times 9 round)) (countFrom 9 8))
-unfolding breaksRecovery checked run step expireOnce goneWith seenReply seenTick amongLast plainOffer plainSend plainHear plainTick plainArrive
-stuck = tt
-
--- a window of nine, ten, up to sixteen
-pub wide-refused : (n : ℕ) → T (oneOf n (countFrom 9 8)) → Delivers (wide n) → ⊥
-wide-refused n h =
-    unrecovered (wide n) nineLost (times 9 round)
-    (T-true _ (one-of-all (λ n. breaksRecovery (wide n) nineLost (times 9 round)) (countFrom 9 8) n stuck h))
+use Rattle.delivery_wrong.specs.Plain.{plainOffer, plainSend, plainHear, plainTick, plainArrive, right, leftBehind, usedAgain, coversEarlier, falseCount}
+use Rattle.delivery_wrong.proofs.Wide.{nineLost}
+use Rattle.delivery_wrong.proofs.ByRun.{nth, segments, times, output, round, after, checked, breaksSafety, unsafe, breaksAt, breaksRecovery, unrecovered, recoversHere}
 
 -- segment 0 is delivered, the timer expires and the send point is at 0; then its ACK is heard and the send point stays there.
 -- Segments 1 to 8 are offered, and 8 is stored in the buffer that 0 has left
@@ -43,7 +24,7 @@ freed-buffer-read = refl
 
 -- and after the drill segment 8 is not delivered
 pub left-behind-refused : Delivers leftBehind → ⊥
-unfolding breaksRecovery checked run step expireOnce goneWith seenReply seenTick amongLast plainOffer plainSend plainHear plainTick plainArrive
+unfolding breaksRecovery breaksAt checked run step expireOnce goneWith seenReply seenTick amongLast plainOffer plainSend plainHear plainTick plainArrive
 left-behind-refused = unrecovered leftBehind behind (times 8 round) refl
 
 -- eight are offered, and the eighth is stored where the first was: it is delivered in its place
@@ -60,7 +41,7 @@ firstAckLost =
     map offer (segments 0 2) ++ times 2 (send output ∷ []) ++ times 2 (arrive true output ∷ []) ++ lose-reply 0 ∷ hear ∷ []
 
 pub covers-earlier-refused : Delivers coversEarlier → ⊥
-unfolding breaksRecovery checked run step expireOnce goneWith seenReply seenTick amongLast plainOffer plainSend plainHear plainTick plainArrive
+unfolding breaksRecovery breaksAt checked run step expireOnce goneWith seenReply seenTick amongLast plainOffer plainSend plainHear plainTick plainArrive
 covers-earlier-refused = unrecovered coversEarlier firstAckLost (times 2 round) refl
 
 -- an expiry, a NACK of the oldest from a full receiver, an expiry: one is counted, and the next takes the link down
@@ -69,12 +50,12 @@ clearedOnce =
     offer (nth 0) ∷ send output ∷ lose 0 ∷ tick ∷ send output ∷ arrive false output ∷ hear ∷ tick ∷ []
 
 pub false-count-refused : Delivers falseCount → ⊥
-unfolding breaksRecovery checked run step expireOnce goneWith seenReply seenTick amongLast plainOffer plainSend plainHear plainTick plainArrive
+unfolding breaksRecovery breaksAt checked run step expireOnce goneWith seenReply seenTick amongLast plainOffer plainSend plainHear plainTick plainArrive
 false-count-refused = unrecovered falseCount clearedOnce round refl
 
 -- the right choice comes through the same runs: it is the choice that breaks them
 pub record Control : Type 0 where
-  pub eight-stored : recoversHere (wide 8) nineLost (times 8 round) ≡ true
+  pub eight-stored : recoversHere right nineLost (times 8 round) ≡ true
   pub moved-up : recoversHere right behind (times 8 round) ≡ true
   pub in-place : breaksSafety right overwritten 0 ≡ false
   pub own-only : recoversHere right firstAckLost (times 2 round) ≡ true

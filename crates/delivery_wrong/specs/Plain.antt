@@ -57,10 +57,10 @@ moved s point ticks expiries =
     }
 
 module _ (c : Choice) where
-  unfoldable pub plainOffer : PlainSender → List ℕ → Content → Offering PlainSender
-  plainOffer s lent x =
-      cond (not (fallen s) && ltb (s .stored) (c .window))
-      (record {
+  -- one more is stored
+  abbrev pub plainTaken : PlainSender → List ℕ → Content → Offering PlainSender
+  plainTaken s lent x =
+      record {
         accepted = true;
         buffers = lent;
         state = record {
@@ -73,8 +73,11 @@ module _ (c : Choice) where
           expiries = s .expiries;
           held = set (s .held) ((s .released + s .stored) % c .buffers) x;
         };
-      })
-      (record { accepted = false; buffers = lent; state = s })
+      }
+
+  unfoldable pub plainOffer : PlainSender → List ℕ → Content → Offering PlainSender
+  plainOffer s lent x =
+      cond (not (fallen s) && ltb (s .stored) (c .window)) (plainTaken s lent x) (record { accepted = false; buffers = lent; state = s })
 
   unfoldable pub plainSend : PlainSender → List ℕ → List ℕ → Sending PlainSender
   plainSend s lent output =
@@ -177,9 +180,12 @@ plain c =
 abbrev pub right : Ends
 right = plain (record { window = 8; buffers = 8; moves-up = true; own-only = true; clears = true })
 
--- a window of nine or more
+-- a window of nine or more, with buffers enough for sixteen
+abbrev pub wideChoice : ℕ → Choice
+wideChoice n = record { window = n; buffers = 16; moves-up = true; own-only = true; clears = true }
+
 abbrev pub wide : ℕ → Ends
-wide n = plain (record { window = n; buffers = n; moves-up = true; own-only = true; clears = true })
+wide n = plain (wideChoice n)
 
 -- all sixteen numbers in use at once
 abbrev pub sixteen : Ends
