@@ -79,10 +79,10 @@ module _ (c : Choice) where
   plainOffer s lent x =
       cond (not (fallen s) && ltb (s .stored) (c .window)) (plainTaken s lent x) (record { accepted = false; buffers = lent; state = s })
 
-  unfoldable pub plainSend : PlainSender → List ℕ → List ℕ → Sending PlainSender
-  plainSend s lent output =
-      cond (not (fallen s) && ltb (s .point) (s .released + s .stored))
-      (record {
+  -- the segment at the send point goes out
+  abbrev pub plainGoes : PlainSender → Sending PlainSender
+  plainGoes s =
+      record {
         sent = true;
         number = s .point % 16;
         content = getD (s .held) (s .point % c .buffers) noContent;
@@ -96,7 +96,11 @@ module _ (c : Choice) where
           expiries = s .expiries;
           held = s .held;
         };
-      })
+      }
+
+  unfoldable pub plainSend : PlainSender → List ℕ → List ℕ → Sending PlainSender
+  plainSend s lent output =
+      cond (not (fallen s) && ltb (s .point) (s .released + s .stored)) (plainGoes s)
       (record { sent = false; number = 0; content = noContent; state = s })
 
   -- the n oldest are released
@@ -177,8 +181,11 @@ plain c =
     }
 
 -- the rules
+abbrev pub rightChoice : Choice
+rightChoice = record { window = 8; buffers = 8; moves-up = true; own-only = true; clears = true }
+
 abbrev pub right : Ends
-right = plain (record { window = 8; buffers = 8; moves-up = true; own-only = true; clears = true })
+right = plain rightChoice
 
 -- a window of nine or more, with buffers enough for sixteen
 abbrev pub wideChoice : ℕ → Choice
