@@ -12,6 +12,6 @@ pub mod SenderSteps
 pub mod ReplySteps
 pub mod ArrivalSteps
 pub mod Safety
+pub mod Resending
 pub mod Recovery
-pub mod Expiry
 pub mod Theorem

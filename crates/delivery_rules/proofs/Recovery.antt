@@ -1,7 +1,7 @@
--- Sending each stored segment once, with its reply: what stands on the lines meanwhile is the next ones, each once and in order.
+-- What our ends do while the stored segments are sent again: what stands on the lines meanwhile is the next ones, each once and in order.
 -- Assumes nothing.
 use mathlib.Core.Path.{_≡_, refl, sym, _∙_, ap, subst}
-use mathlib.Core.Bool.{Bool, true, false}
+use mathlib.Core.Bool.{true, false}
 use mathlib.Core.List.{List, [], _∷_}
 use Prim.Native.Nat.{ℕ, suc, _+_, _*_, _%_, _≤_, _<_}
 use native.Mathlib.Omega.{arith}
@@ -18,13 +18,14 @@ use Rattle.retry_rules.specs.Reply.{restarted, oneReleased, heard, withCounters
 use Rattle.retry_rules.proofs.Steps.{heard-cases}
 use Rattle.retry_rules.proofs.StoredSlots.{stored-slot}
 use Rattle.retry_rules.proofs.Seen.{send-passes, arrival-passes}
-use Rattle.delivery_rules.specs.Ends.{Item, segment, damaged, Reply, ack, nack, damaged-reply, Sending, Arriving}
+use Rattle.delivery_rules.specs.Ends.{Item, segment, Reply, ack, Sending, Arriving}
 use Rattle.delivery_rules.specs.Outside.{Seen, seenWith, seenReply}
-use Rattle.delivery_rules.specs.Model.{Event, offer, send, arrive, lose, damage, hear, lose-reply, damage-reply, tick, World, sent, arrived, arrives, told, hears, step, run}
-use Rattle.delivery_rules.specs.Demand.{noContent, Good, Empty, NoExpiry, Fits, SendsEach}
+use Rattle.delivery_rules.specs.Model.{send, arrive, tick, World, sent, arrived, told, step}
+use Rattle.delivery_rules.specs.Demand.{noContent, Good, NoExpiry}
 use Rattle.delivery_rules.specs.Ours.{hearing, arriving, ours}
 use Rattle.delivery_rules.proofs.Round.{near-is, among, same-number}
-use Rattle.delivery_rules.proofs.Sequence.{Sequence, then-one, first-of, in-order, none-left}
+use Rattle.delivery_rules.proofs.Resending.{Resending}
+use Rattle.delivery_rules.proofs.Sequence.{Sequence, then-one, in-order}
 use Rattle.retry_rules.proofs.Held.{held-length}
 use Rattle.delivery_rules.proofs.Seeing.{own-ack}
 use Rattle.delivery_rules.proofs.Ticks.{tick-either}
@@ -32,23 +33,19 @@ use Rattle.delivery_rules.proofs.Calls.{goes, send-either, arrive-eithe
 use Rattle.delivery_rules.proofs.Invariant.{IsItem, IsAck, Inv, numbers, slots-rule, up}
 use Rattle.delivery_rules.proofs.SenderSteps.{due-is}
 use Rattle.delivery_rules.proofs.Safety.{step-inv}
-use Rattle.delivery_rules.proofs.Calms.{sends-le}
 
--- the j-th accepted segment is the next to go, the b-th the next to arrive; the replies on their way are the ACKs of all before it that are not released
-pub record Resending (S j : ℕ) (w : World ours) : Type 0 where
-  pub inv : Inv S w
-  pub few : w .seen .expiries ≤ 2
-  pub next : j ≡ w .seen .released + w .sender .counters .point
-  pub b : ℕ
-  pub delivered : b ≤ length (w .seen .delivered)
-  pub items : Sequence (IsItem (w .seen .accepted)) b j (w .forward)
-  pub replies : Sequence IsAck (w .seen .released) b (w .backward)
+-- how many accepted segments lie before the send point
+abbrev pub pointOf : World ours → ℕ
+pointOf w = w .seen .released + w .sender .counters .point
+
+abbrev Ours : ℕ → ℕ → World ours → Type 0
+Ours S j w = Resending ours (Inv S) pointOf j w
 
 module _ (S : ℕ) (w : World ours) where
   -- a send with a long enough output
-  sends-next :
-      (j : ℕ) (output : List ℕ) → Resending S j w → j < length (w .seen .accepted)
-      → length (getD (w .seen .accepted) j noContent .bytes) ≤ length output → Resending S (suc j) (step ours (send output) w)
+  pub sends-next :
+      (j : ℕ) (output : List ℕ) → Ours S j w → j < length (w .seen .accepted)
+      → length (getD (w .seen .accepted) j noContent .bytes) ≤ length output → Ours S (suc j) (step ours (send output) w)
   unfolding step heldContent
   sends-next j output r lt long =
       let s = w .sender in
@@ -67,7 +64,7 @@ module _ (S : ℕ) (w : World ours) where
       let long′ : heldLength s (dueSlot c) ≤ length output =
       omega (arith, held-length s (w .buffers) (dueSlot c) lent slot-lt most, ap (λ (x : Content). length (x .bytes)) due, ap (λ (i : ℕ). length (getD (w .seen .accepted) i noContent .bytes)) q, long) in
       let passes = send-passes s (length (w .buffers)) (length output) (record { sound = sound; buffers = lent; long = λ _. long′ }) in
-      send-either s (w .buffers) output (λ (a : Sending Sender). Inv S (sent ours w a) → Resending S (suc j) (sent ours w a))
+      send-either s (w .buffers) output (λ (a : Sending Sender). Inv S (sent ours w a) → Ours S (suc j) (sent ours w a))
       (λ _ t inv.
       record {
         inv = inv;
@@ -87,11 +84,11 @@ module _ (S : ℕ) (w : World ours) where
       (step-inv S (send output) w v)
 
   -- an arrival with room and a long enough output: it is delivered, or was before; either way it is acknowledged
-  arrives-next :
-      (j k : ℕ) (x : Content) (rest : List Item) (output : List ℕ) (r : Resending S j w)
+  pub arrives-next :
+      (j k : ℕ) (x : Content) (rest : List Item) (output : List ℕ) (r : Ours S j w)
       → IsItem (w .seen .accepted) (segment k x) (r .b) → Sequence (IsItem (w .seen .accepted)) (suc (r .b)) j rest
       → length (x .bytes) ≤ length output → Inv S (arrived ours w rest (ours .arrive (w .receiver) (segment k x) true output))
-      → Resending S j (arrived ours w rest (ours .arrive (w .receiver) (segment k x) true output))
+      → Ours S j (arrived ours w rest (ours .arrive (w .receiver) (segment k x) true output))
   unfolding arriving amongLast
   arrives-next j k x rest output r is l long =
       let v = r .inv in
@@ -113,7 +110,7 @@ module _ (S : ℕ) (w : World ours) where
       let at : r .b ≡ e → k ≡ w .receiver .expected = λ p. k-is ∙ ap (λ (i : ℕ). i % 16) p ∙ sym (f .expected) in
       let close : e ≤ r .b + 8 = omega arith in
       let low : r .b < e + 8 = omega arith in
-      arrive-either (w .receiver) k x true output (λ (a : Arriving Receiver). Inv S (arrived ours w rest a) → Resending S j (arrived ours w rest a))
+      arrive-either (w .receiver) k x true output (λ (a : Arriving Receiver). Inv S (arrived ours w rest a) → Ours S j (arrived ours w rest a))
       (λ no. absurd (no passes))
       (λ eq _ inv.
       let b-is = near-is (r .b) e close low (sym k-is ∙ eq ∙ f .expected) in
@@ -150,10 +147,10 @@ module _ (S : ℕ) (w : World ours) where
       ne-lt a b h q = omega arith
 
   -- the reply that is heard is the ACK of the oldest
-  hears-next :
-      (j k : ℕ) (rest : List Reply) (r : Resending S j w) → k ≡ w .seen .released % 16 → Sequence IsAck (suc (w .seen .released)) (r .b) rest
+  pub hears-next :
+      (j k : ℕ) (rest : List Reply) (r : Ours S j w) → k ≡ w .seen .released % 16 → Sequence IsAck (suc (w .seen .released)) (r .b) rest
       → Inv S (told ours w (hearing (w .sender) (ack k)) rest (seenReply (w .seen) (ack k)))
-      → Resending S j (told ours w (hearing (w .sender) (ack k)) rest (seenReply (w .seen) (ack k)))
+      → Ours S j (told ours w (hearing (w .sender) (ack k)) rest (seenReply (w .seen) (ack k)))
   hears-next j k rest r q l =
       let s = w .sender in
       let c = s .counters in
@@ -174,7 +171,7 @@ module _ (S : ℕ) (w : World ours) where
       let sender : hearing s (ack k) ≡ withCounters s (restarted (oneReleased c)) =
       ack-heard s k (record { sound = up S w v few; number-lt = k-lt }) ∙ ap (withCounters s) is in
       let seen = own-ack g few (omega arith) k q in
-      let P : Sender → Seen → Type 0 = λ s g. Inv S (told ours w s rest g) → Resending S j (told ours w s rest g) in
+      let P : Sender → Seen → Type 0 = λ s g. Inv S (told ours w s rest g) → Ours S j (told ours w s rest g) in
       let there : P (withCounters s (restarted (oneReleased c))) (seenWith g (g .gone) (g .released + 1) 0 0) = λ inv.
       record {
         inv = inv;
@@ -189,14 +186,14 @@ module _ (S : ℕ) (w : World ours) where
       (subst (P (withCounters s (restarted (oneReleased c)))) (sym seen) there)
 
   -- a tick that is no expiry
-  ticks-on : (j : ℕ) → Resending S j w → NoExpiry ours w → Resending S j (step ours tick w)
+  pub ticks-on : (j : ℕ) → Ours S j w → NoExpiry ours w → Ours S j (step ours tick w)
   unfolding step
   ticks-on j r quiet =
       let v = r .inv in
       let few = r .few in
       let c = w .sender .counters in
       tick-either S w v (omega arith)
-      (λ s g. g .expiries ≡ w .seen .expiries → Inv S (told ours w s (w .backward) g) → Resending S j (told ours w s (w .backward) g))
+      (λ s g. g .expiries ≡ w .seen .expiries → Inv S (told ours w s (w .backward) g) → Ours S j (told ours w s (w .backward) g))
       (λ _ _ _. r)
       (λ _ _ _ inv.
       record {
@@ -210,51 +207,11 @@ module _ (S : ℕ) (w : World ours) where
       })
       (λ _ _ _ q. absurd (omega arith)) (λ _ _ _ q. absurd (omega arith)) quiet (step-inv S tick w v)
 
-module _ (S j : ℕ) where
-  arrival-next :
-      (w : World ours) (l : List Item) (output : List ℕ) (r : Resending S j w) → Sequence (IsItem (w .seen .accepted)) (r .b) j l → Fits ours l output
-      → Inv S (arrives ours w true output l) → Resending S j (arrives ours w true output l)
-  arrival-next w [] output r q long inv = r
-  arrival-next w (segment k x ∷ rest) output r q long inv =
-      arrives-next S w j k x rest output r (first-of q .0) (first-of q .1) long inv
-  arrival-next w (damaged ∷ rest) output r q long inv = absurd (first-of q .0)
-
-  hearing-next :
-      (w : World ours) (l : List Reply) (r : Resending S j w) → Sequence IsAck (w .seen .released) (r .b) l → Inv S (hears ours w l)
-      → Resending S j (hears ours w l)
-  hearing-next w [] r q inv = r
-  hearing-next w (ack k ∷ rest) r q inv = hears-next S w j k rest r (first-of q .0) (first-of q .1) inv
-  hearing-next w (nack k ∷ rest) r q inv = absurd (first-of q .0)
-  hearing-next w (damaged-reply ∷ rest) r q inv = absurd (first-of q .0)
-
--- at the end of the drill all that was accepted has been sent, has arrived and is released
-pub record Finished (S : ℕ) (w : World ours) : Type 0 where
-  pub inv : Inv S w
-  pub few : w .seen .expiries ≤ 2
-  pub all-released : w .seen .released ≡ length (w .seen .accepted)
-  pub all-delivered : length (w .seen .accepted) ≤ length (w .seen .delivered)
-
-finished : (S j : ℕ) (w : World ours) → Resending S j w → j ≡ length (w .seen .accepted) → Empty ours w → Finished S w
-finished S j w r q e =
-    let a = none-left (subst (λ (l : List Item). Sequence (IsItem (w .seen .accepted)) (r .b) j l) (e .0) (r .items)) in
-    let b = none-left (subst (λ (l : List Reply). Sequence IsAck (w .seen .released) (r .b) l) (e .1) (r .replies)) in
-    record { inv = r .inv; few = r .few; all-released = b ∙ a ∙ q; all-delivered = omega (arith, a, r .delivered) }
-
-pub sent-each : (S : ℕ) (es : List Event) (j : ℕ) (w : World ours) → SendsEach ours j es w → Resending S j w → Finished S (run ours es w)
-unfolding run SendsEach step
-sent-each S [] j w c r = finished S j w r (c .0) (c .1)
-sent-each S (send output ∷ es) j w c r =
-    let lt = sends-le ours es (suc j) (step ours (send output) w) (c .1) in
-    sent-each S es (suc j) (step ours (send output) w) (c .1) (sends-next S w j output r lt (c .0))
-sent-each S (arrive room output ∷ es) j w c r =
-    let next = arrival-next S j w (w .forward) output r (r .items) (c .1) (step-inv S (arrive true output) w (r .inv)) in
-    sent-each S es j (step ours (arrive room output) w) (c .2)
-    (subst (λ (b : Bool). Resending S j (arrives ours w b output (w .forward))) (sym (c .0)) next)
-sent-each S (hear ∷ es) j w c r =
-    sent-each S es j (step ours hear w) c (hearing-next S j w (w .backward) r (r .replies) (step-inv S hear w (r .inv)))
-sent-each S (tick ∷ es) j w c r = sent-each S es j (step ours tick w) (c .1) (ticks-on S w j r (c .0))
-sent-each S (offer x ∷ es) j w c r = absurd c
-sent-each S (lose n ∷ es) j w c r = absurd c
-sent-each S (damage n ∷ es) j w c r = absurd c
-sent-each S (lose-reply n ∷ es) j w c r = absurd c
-sent-each S (damage-reply n ∷ es) j w c r = absurd c
+  -- after an expiry the oldest is the next to go
+  pub at-expiry :
+      Inv S w → w .seen .expiries < 2 → w .seen .released < w .seen .gone → w .seen .ticks + 1 ≡ w .seen .columns
+      → pointOf (step ours tick w) ≡ w .seen .released
+  unfolding step
+  at-expiry v few some last =
+      tick-either S w v (omega arith) (λ s g. g .released + s .counters .point ≡ w .seen .released) (λ none. absurd (omega arith))
+      (λ _ no. absurd (no last)) (λ _ _ _. omega arith) (λ _ _ two. absurd (omega arith))

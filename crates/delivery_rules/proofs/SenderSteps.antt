@@ -6,7 +6,7 @@ use mathlib.Core.List.{List, [], _∷_, _++_}
 use Prim.Native.Nat.{ℕ, _+_, _%_, _≤_, _<_}
 use native.Mathlib.Omega.{arith}
 use native.Mathlib.Decide.{decLt}
-use lib.Dec.{ltb, eqb}
+use lib.Dec.{ltb}
 use lib.ListN.{length, getD, length-append, List·getD-append}
 use lib.Seq.{take-append-le, getD-append-seam}
 use borrow.Author.Tests.{ltb-true, ltb-false, lt-ltb, eq-eqb, ne-eqb}
@@ -33,7 +33,7 @@ use Rattle.delivery_rules.proofs.Calls.{taken, offer-either, goes, send
 use Rattle.delivery_rules.proofs.Invariant.{IsItem, Inv, numbers}
 
 -- one more accepted: what stood at a place stands there
-grown : (acc : List Content) (x : Content) (a : Item) (j : ℕ) → j < length acc → IsItem acc a j → IsItem (acc ++ x ∷ []) a j
+pub grown : (acc : List Content) (x : Content) (a : Item) (j : ℕ) → j < length acc → IsItem acc a j → IsItem (acc ++ x ∷ []) a j
 grown acc x (segment k y) j h t = (t .0, t .1 ∙ sym (List·getD-append acc (x ∷ []) noContent j h))
 grown acc x damaged j h t = t
 

@@ -2,24 +2,22 @@
 -- Assumes nothing.
 use mathlib.Core.Path.{_≡_, sym, _∙_}
 use mathlib.Core.List.{List, [], _∷_, _++_, map, append-assoc, append-nil}
-use Prim.Native.Nat.{ℕ, _+_, _*_, _≤_, _<_}
+use Prim.Native.Nat.{ℕ, _+_, _*_, _≤_}
 use native.Mathlib.Omega.{arith}
 use lib.ListN.{length}
-use lib.Seq.{take-all}
 use Rattle.retry_rules.specs.declared.Sender.{Sender}
 use Rattle.retry_rules.specs.Lent.{Content}
 use Rattle.delivery_rules.specs.Ends.{Offering}
 use Rattle.delivery_rules.specs.Outside.{stored}
 use Rattle.delivery_rules.specs.Model.{offer, World, offered, step, run}
-use Rattle.delivery_rules.specs.Demand.{AllGood, at, Drill, drilled, expireOnce, Recovered, Delivers}
+use Rattle.delivery_rules.specs.Demand.{AllGood, at, Delivers}
 use Rattle.delivery_rules.specs.Ours.{ours}
 use Rattle.delivery_rules.proofs.Calls.{offer-either}
-use Rattle.delivery_rules.proofs.Invariant.{Inv, up}
-use Rattle.delivery_rules.proofs.Safety.{sender-begins, receiver-begins, step-inv, run-inv, moment-inv, first-so-many}
-use Rattle.delivery_rules.proofs.Calms.{calm-run, sends-calm, expired}
+use Rattle.delivery_rules.proofs.Invariant.{Inv, numbers, up}
+use Rattle.delivery_rules.proofs.Safety.{sender-begins, receiver-begins, step-inv, moment-inv, first-so-many}
 use Rattle.delivery_rules.proofs.Drills.{can-drill}
-use Rattle.delivery_rules.proofs.Recovery.{Finished, sent-each}
-use Rattle.delivery_rules.proofs.Expiry.{expires-once}
+use Rattle.delivery_rules.proofs.Resending.{Resends, drill-recovers}
+use Rattle.delivery_rules.proofs.Recovery.{pointOf, sends-next, arrives-next, hears-next, ticks-on, at-expiry}
 
 -- good offers are accepted while fewer than eight are stored
 accepts :
@@ -47,32 +45,35 @@ accepts S (y ∷ xs) w v x h g =
     })))
     (step-inv S (offer y) w v)
 
-recovered :
-    (S : ℕ) (before after : World ours) → Finished S after → after .seen .accepted ≡ before .seen .accepted → Recovered ours S before after
-recovered S before after f same =
-    let v = f .inv in
-    let u = v .counts in
+resends : (S : ℕ) → Resends ours (Inv S) pointOf S
+resends S =
     record {
-      all = v .prefix ∙ take-all (length (after .seen .delivered)) (after .seen .accepted) (f .all-delivered) ∙ same;
-      none-stored = omega (arith, f .all-released);
-      eight-free = λ xs eight good. accepts S xs after v (f .few) (omega (arith, f .all-released)) good;
+      keeps = step-inv S;
+      prefix = λ w v. v .prefix;
+      low = λ w v. v .follows .low;
+      sends = sends-next S;
+      arrives-at = arrives-next S;
+      hears-ack = hears-next S;
+      ticks-on = ticks-on S;
+      at-rest = λ w v none.
+          let n = numbers (w .sender) (v .rule) .numbers in
+          let u = v .counts in
+          omega arith;
+      time-left = λ w v.
+          let n = numbers (w .sender) (v .rule) .numbers in
+          let u = v .counts in
+          omega arith;
+      at-expiry = at-expiry S;
+      accepts = λ w v few released xs eight good.
+          let u = v .counts in
+          accepts S xs w v few (omega arith) good;
     }
-
-drill-recovers : (S : ℕ) (w : World ours) → Inv S w → w .seen .expiries < 2 → (d : Drill ours w) → Recovered ours S w (drilled ours w d)
-drill-recovers S w v x d =
-    let emptied = run ours (d .emptying) w in
-    let calm = calm-run ours (d .emptying) w (d .calm) in
-    let ready = expireOnce ours emptied in
-    let again = expires-once S emptied (run-inv S (d .emptying) w v) (d .empty) (omega (arith, calm .expiries)) in
-    let sends = calm-run ours (d .sending) ready (sends-calm ours (d .sending) (ready .seen .released) ready (d .each)) in
-    recovered S w (drilled ours w d) (sent-each S (d .sending) (ready .seen .released) ready (d .each) again)
-    (sends .accepted ∙ expired ours emptied .accepted ∙ calm .accepted)
 
 pub delivers : Delivers ours
 delivers =
     record {
       begins = λ T S lent a. (sender-begins T S lent a, receiver-begins T S lent a);
       safe = λ m _. first-so-many m;
-      recovers = λ m _ x d. drill-recovers (m .S) (at ours m) (moment-inv m) x d;
+      recovers = λ m _ x d. drill-recovers ours (Inv (m .S)) pointOf (m .S) (resends (m .S)) (at ours m) (moment-inv m) x d;
       can-drill = λ m _ _. can-drill ours m;
     }
