@@ -93,7 +93,7 @@ module _ (S : ℕ) (w : World ours) (v : Inv S w) (rest : List Item) where
       let low : a .j < e + 8 = omega arith in
       let lt : between k (r .expected) < r .received = ltb-true (between k (r .expected)) (r .received) last in
       let lt′ : between (a .j % 16) (e % 16) < min e 8 = rw (← f .expected, ← is, ← f .received) lt in
-      let before : a .j < e = among-is (a .j) e low (λ p. ne (is ∙ ap (λ (j : ℕ). j % 16) p ∙ sym (f .expected))) lt′ in
+      let before : a .j < e = among-is (a .j) e low (λ p. ne (is ∙ ap (λ (j : ℕ). j % 16) p ∙ sym (f .expected))) (omega (arith, lt′)) in
       lined-inv S w v rest (w .backward ++ ack k ∷ []) (tail l) (snoc (ack k) (a .j) is (omega arith) (omega arith) (omega arith) (v .replies))
 
   denies-inv : (i : Item) → Items (i ∷ rest) → Inv S (arrived ours w rest (denies (w .receiver)))

@@ -25,7 +25,7 @@ near-is j e h u q = omega arith
 past : (j e : ℕ) → e < j → j < e + 8 → 8 ≤ between (j % 16) (e % 16)
 past j e h u = omega arith
 
-pub among-is : (j e : ℕ) → j < e + 8 → (j ≡ e → ⊥) → between (j % 16) (e % 16) < min e 8 → j < e
+pub among-is : (j e : ℕ) → j < e + 8 → (j ≡ e → ⊥) → between (j % 16) (e % 16) < 8 → j < e
 among-is j e u ne lt =
     elim (decLt j e) [ yes p ↦ p | no p ↦ omega (arith, past j e (omega arith) u) ]
 

@@ -151,12 +151,6 @@ module _ (E : Ends) where
   unfoldable pub breaksRecovery : List Event → List Event → Bool
   breaksRecovery es fs = breaksAt (after es) fs
 
-  -- the same, but all is delivered and nothing stored
-  unfoldable pub recoversHere : List Event → List Event → Bool
-  recoversHere es fs =
-      let ready = expireOnce E (after es) in
-      checked (ready .seen .released) fs ready && complete (after es) (run E fs ready)
-
   pub unrecovered-at : (es fs : List Event) → breaksAt (after es) fs ≡ true → Delivers E → ⊥
   unfolding breaksAt run AllCalm
   unrecovered-at es fs q d =

@@ -8,9 +8,8 @@ use Rattle.delivery_rules.specs.Ends.{segment}
 use Rattle.delivery_rules.specs.Outside.{goneWith, seenReply, seenTick}
 use Rattle.delivery_rules.specs.Model.{Event, offer, send, arrive, lose, hear, lose-reply, tick, step, run}
 use Rattle.delivery_rules.specs.Demand.{expireOnce, Delivers}
-use Rattle.delivery_wrong.specs.Plain.{plainOffer, plainSend, plainHear, plainTick, plainArrive, right, leftBehind, usedAgain, coversEarlier, falseCount}
-use Rattle.delivery_wrong.proofs.Wide.{nineLost}
-use Rattle.delivery_wrong.proofs.ByRun.{nth, segments, times, output, round, after, checked, breaksSafety, unsafe, breaksAt, breaksRecovery, unrecovered, recoversHere}
+use Rattle.delivery_wrong.specs.Plain.{plainOffer, plainSend, plainHear, plainTick, plainArrive, leftBehind, usedAgain, coversEarlier, falseCount}
+use Rattle.delivery_wrong.proofs.ByRun.{nth, segments, times, output, round, after, checked, breaksSafety, unsafe, breaksAt, breaksRecovery, unrecovered}
 
 -- segment 0 is delivered, the timer expires and the send point is at 0; then its ACK is heard and the send point stays there.
 -- Segments 1 to 8 are offered, and 8 is stored in the buffer that 0 has left
@@ -52,15 +51,3 @@ clearedOnce =
 pub false-count-refused : Delivers falseCount → ⊥
 unfolding breaksRecovery breaksAt checked run step expireOnce goneWith seenReply seenTick amongLast plainOffer plainSend plainHear plainTick plainArrive
 false-count-refused = unrecovered falseCount clearedOnce round refl
-
--- the right choice comes through the same runs: it is the choice that breaks them
-pub record Control : Type 0 where
-  pub eight-stored : recoversHere right nineLost (times 8 round) ≡ true
-  pub moved-up : recoversHere right behind (times 8 round) ≡ true
-  pub in-place : breaksSafety right overwritten 0 ≡ false
-  pub own-only : recoversHere right firstAckLost (times 2 round) ≡ true
-  pub cleared : recoversHere right clearedOnce round ≡ true
-
-pub control : Control
-unfolding recoversHere breaksSafety checked run step expireOnce goneWith seenReply seenTick amongLast plainOffer plainSend plainHear plainTick plainArrive
-control = record { eight-stored = refl; moved-up = refl; in-place = refl; own-only = refl; cleared = refl }

@@ -1,4 +1,4 @@
--- Ends in plain numbers, which go round only on the line: the rules of document 01 once more, with five choices left open.
+-- Ends in plain numbers, which go round only on the line: the rules of document 01 once more, with six choices left open.
 -- `right` makes them by the rules; each wrong end is one other choice.
 use Prim.Native.Nat.{ℕ, _+_, _-_, _%_, min, max}
 use mathlib.Core.Bool.{Bool, true, false, not, cond, _&&_, _||_}
@@ -20,6 +20,8 @@ pub record Choice : Type 0 where
   pub own-only : Bool
   -- a NACK of the oldest clears the expiry count
   pub clears : Bool
+  -- of the last eight numbers only those count that were really received or released
+  pub really : Bool
 
 pub record PlainSender : Type 0 where
   pub columns : ℕ
@@ -56,7 +58,21 @@ moved s point ticks expiries =
       held = s .held;
     }
 
+abbrev pub replied : Reply → PlainReceiver → Arriving PlainReceiver
+replied y r = record { answered = true; reply = y; delivered = false; content = noContent; state = r }
+
+unfoldable pub plainTick : PlainSender → PlainSender
+plainTick s =
+    cond (idle s) s
+    (cond (eqb (s .ticks + 1) (s .columns))
+    (moved s (cond (ltb (s .expiries) 2) (s .released) (s .point)) 0 (s .expiries + 1))
+    (moved s (s .point) (s .ticks + 1) (s .expiries)))
+
 module _ (c : Choice) where
+  -- how many of the last eight of n count
+  abbrev pub eightOf : ℕ → ℕ
+  eightOf n = cond (c .really) (min n 8) 8
+
   -- one more is stored
   abbrev pub plainTaken : PlainSender → List ℕ → Content → Offering PlainSender
   plainTaken s lent x =
@@ -128,31 +144,21 @@ module _ (c : Choice) where
   plainHear s (ack k) =
       cond (idle s) s
       (cond (ltb (ahead s k) (reach s)) (plainRelease s (ahead s k + 1))
-      (cond (amongLast (min (s .released) 8) (s .released % 16) k) s (moved s (s .released) (s .ticks) (s .expiries))))
+      (cond (amongLast (eightOf (s .released)) (s .released % 16) k) s (moved s (s .released) (s .ticks) (s .expiries))))
   plainHear s (nack k) =
       cond (idle s) s
       (cond (eqb k (s .released % 16)) (moved s (s .released) 0 (cond (c .clears) 0 (s .expiries)))
       (moved s (s .released) (s .ticks) (s .expiries)))
   plainHear s damaged-reply = s
 
-unfoldable pub plainTick : PlainSender → PlainSender
-plainTick s =
-    cond (idle s) s
-    (cond (eqb (s .ticks + 1) (s .columns))
-    (moved s (cond (ltb (s .expiries) 2) (s .released) (s .point)) 0 (s .expiries + 1))
-    (moved s (s .point) (s .ticks + 1) (s .expiries)))
-
-abbrev pub replied : Reply → PlainReceiver → Arriving PlainReceiver
-replied y r = record { answered = true; reply = y; delivered = false; content = noContent; state = r }
-
-unfoldable pub plainArrive : PlainReceiver → Item → Bool → List ℕ → Arriving PlainReceiver
-plainArrive r (segment k x) room output =
-    cond (eqb k (r .taken % 16))
-    (cond room
-    (record { answered = true; reply = ack k; delivered = true; content = x; state = record { taken = r .taken + 1 } })
-    (replied (nack (r .taken % 16)) r))
-    (cond (amongLast (min (r .taken) 8) (r .taken % 16) k) (replied (ack k) r) (replied (nack (r .taken % 16)) r))
-plainArrive r damaged room output = replied (nack (r .taken % 16)) r
+  unfoldable pub plainArrive : PlainReceiver → Item → Bool → List ℕ → Arriving PlainReceiver
+  plainArrive r (segment k x) room output =
+      cond (eqb k (r .taken % 16))
+      (cond room
+      (record { answered = true; reply = ack k; delivered = true; content = x; state = record { taken = r .taken + 1 } })
+      (replied (nack (r .taken % 16)) r))
+      (cond (amongLast (eightOf (r .taken)) (r .taken % 16) k) (replied (ack k) r) (replied (nack (r .taken % 16)) r))
+  plainArrive r damaged room output = replied (nack (r .taken % 16)) r
 
 abbrev pub plain : Choice → Ends
 plain c =
@@ -177,19 +183,23 @@ plain c =
       send = plainSend c;
       hear = plainHear c;
       tick = plainTick;
-      arrive = plainArrive;
+      arrive = plainArrive c;
     }
 
 -- the rules
-abbrev pub rightChoice : Choice
-rightChoice = record { window = 8; buffers = 8; moves-up = true; own-only = true; clears = true }
+abbrev pub ruleChoice : Bool → Choice
+ruleChoice really = record { window = 8; buffers = 8; moves-up = true; own-only = true; clears = true; really = really }
 
 abbrev pub right : Ends
-right = plain rightChoice
+right = plain (ruleChoice true)
+
+-- 'last eight' by remainder alone
+abbrev pub byRemainder : Ends
+byRemainder = plain (ruleChoice false)
 
 -- a window of nine or more, with buffers enough for sixteen
 abbrev pub wideChoice : ℕ → Choice
-wideChoice n = record { window = n; buffers = 16; moves-up = true; own-only = true; clears = true }
+wideChoice n = record { window = n; buffers = 16; moves-up = true; own-only = true; clears = true; really = true }
 
 abbrev pub wide : ℕ → Ends
 wide n = plain (wideChoice n)
@@ -200,16 +210,16 @@ sixteen = wide 16
 
 -- a buffer used again before its segment is released
 abbrev pub usedAgain : Ends
-usedAgain = plain (record { window = 8; buffers = 7; moves-up = true; own-only = true; clears = true })
+usedAgain = plain (record { window = 8; buffers = 7; moves-up = true; own-only = true; clears = true; really = true })
 
 -- a send point that stays behind the oldest after an ACK, and reads a freed buffer
 abbrev pub leftBehind : Ends
-leftBehind = plain (record { window = 8; buffers = 8; moves-up = false; own-only = true; clears = true })
+leftBehind = plain (record { window = 8; buffers = 8; moves-up = false; own-only = true; clears = true; really = true })
 
 -- an ACK taken to cover all earlier segments
 abbrev pub coversEarlier : Ends
-coversEarlier = plain (record { window = 8; buffers = 8; moves-up = true; own-only = false; clears = true })
+coversEarlier = plain (record { window = 8; buffers = 8; moves-up = true; own-only = false; clears = true; really = true })
 
 -- an expiry count other than the expiries since the last clearing
 abbrev pub falseCount : Ends
-falseCount = plain (record { window = 8; buffers = 8; moves-up = true; own-only = true; clears = false })
+falseCount = plain (record { window = 8; buffers = 8; moves-up = true; own-only = true; clears = false; really = true })
