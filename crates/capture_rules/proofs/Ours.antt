@@ -1,15 +1,14 @@
 -- Our packer and unpacker, by their contracts' definitions, meet what is asked of any.
 -- Assumes nothing.
-use mathlib.Core.Path.{_≡_, refl, sym, ap, ap₂, _∙_, subst}
-use mathlib.Core.List.{List, [], _∷_, _++_}
-use Prim.Native.Nat.{ℕ, _+_, _*_, _/_, _≤_}
+use mathlib.Core.Path.{_≡_, sym, ap, _∙_, subst}
+use mathlib.Core.List.{List}
+use Prim.Native.Nat.{ℕ, _≤_}
 use native.Mathlib.Omega.{arith}
 use lib.Dec.{T}
 use lib.ListN.{length, take, drop}
 use lib.Seq.{take-at}
-use Rattle.laws.specs.Groups.{allBelow}
 use Rattle.capture_rules.specs.Capture.{Packed, characterCount, charactersOf, legal, byteCount, packOf}
-use Rattle.capture_rules.specs.Calls.{Said, answered, packSays, packLeaves, unpackSays, unpackLeaves}
+use Rattle.capture_rules.specs.Calls.{answered, packSays, packLeaves, unpackSays, unpackLeaves}
 use Rattle.capture_rules.specs.Demands.{Call, Packable, Packs, RoundTrip, SameCapture}
 use Rattle.capture_rules.proofs.Packing.{pack-length, pack-packed, unpack-pack, pack-unpack, pack-legal, characters-length, characters-below, legal-size, legal-packed, packed-sizes}
 use Rattle.capture_rules.proofs.Laws.{pack-says, pack-leaves, unpack-says, unpack-leaves}

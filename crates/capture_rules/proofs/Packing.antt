@@ -2,12 +2,12 @@
 -- Assumes nothing.
 use mathlib.Core.Path.{_≡_, refl, sym, ap, ap₂, _∙_, subst}
 use mathlib.Core.Bool.{Bool, true, false, not, _&&_}
-use mathlib.Core.List.{List, [], _∷_, _++_, append-nil}
+use mathlib.Core.List.{List, [], _++_, append-nil}
 use Prim.Native.Nat.{ℕ, zero, suc, _+_, _-_, _*_, _/_, _%_, _≤_, _<_}
 use borrow.Author.Tests.{leb-true, leb-false}
 use native.Mathlib.Omega.{arith}
 use lib.Dec.{T, eqb, eqb→eq, ltb, leb, leb→le, le→leb, T-not, not-T}
-use lib.ListN.{length, take, drop, replicate, length-append, length-drop, length-replicate, take-append-drop}
+use lib.ListN.{length, drop, replicate, length-append, length-drop, length-replicate, take-append-drop}
 use lib.Seq.{take-all, drop-at}
 use Rattle.laws.specs.Groups.{allBelow, allZero, bitsOf, numbers}
 use Rattle.laws.proofs.Bools.{and-left, and-right, and-both}

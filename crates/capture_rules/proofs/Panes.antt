@@ -1,16 +1,15 @@
 -- The pane keeps its rule, moves by one, and stays where it is past either end.
 -- Assumes nothing.
-use mathlib.Core.Path.{_≡_, refl, sym, ap, _∙_, subst}
-use mathlib.Core.Bool.{Bool, true, false, not, cond}
-use mathlib.Core.List.{List, [], _∷_}
+use mathlib.Core.Path.{_≡_, refl}
+use mathlib.Core.Bool.{Bool, true, false, cond}
+use mathlib.Core.List.{List}
 use Prim.Native.Nat.{ℕ, _+_, _-_, _≤_, _<_}
 use native.Mathlib.Omega.{arith}
-use lib.Dec.{T, ltb, leb, eqb, leb→le, le→leb}
+use lib.Dec.{T, ltb, eqb, leb→le, le→leb}
 use lib.ListN.{length}
 use borrow.Author.Tests.{lt-ltb, le-ltb, le-leb, ltb-true}
 use Rattle.laws.proofs.Bools.{T-true}
 use Rattle.refusal.specs.Order.{Check, refusalOf, outcome}
-use Rattle.capture_rules.specs.declared.Move.{Move}
 use Rattle.capture_rules.specs.Capture.{characterCount, legal}
 use Rattle.capture_rules.specs.Panes.{isPlace, paneChecks, movedTo, stayed, forwardFrom, backFrom}
 

@@ -1,20 +1,18 @@
 -- The arithmetic by place: a character from the two bytes that its bits lie in, a byte from the two characters, the closing bits from the last byte.
 -- Assumes nothing.
 use mathlib.Core.Path.{_≡_, refl, sym, ap, ap₂, _∙_, subst}
-use mathlib.Core.Bool.{Bool, not, _&&_}
 use mathlib.Core.List.{List, [], _∷_, _++_, append-assoc, append-nil}
 use Prim.Native.Nat.{ℕ, zero, suc, _+_, _-_, _*_, _/_, _%_, _^_, _≤_, _<_}
 use native.Mathlib.Omega.{arith}
-use native.Mathlib.Nat.{zero-mod}
-use lib.Dec.{T, eqb, leb}
+use lib.Dec.{T, eqb}
 use lib.ListN.{length, take, drop, getD, replicate, length-append, length-replicate, replicate-append-replicate}
-use lib.Seq.{drop-drop, drop-nil, drop-cons, drop-length}
+use lib.Seq.{drop-drop, drop-cons, drop-length}
 use Rattle.laws.specs.Bits.{bits}
 use Rattle.laws.specs.Groups.{allBelow, allZero, bitsOf, number, numbers}
 use Rattle.laws.proofs.Bits.{number-bits, drop-bits}
 use Rattle.laws.proofs.Groups.{getD-below, length-bitsOf, bitsOf-append, bitsOf-drop, getD-numbers, numbers-front, window}
 use Rattle.laws.proofs.Zeros.{bits-zero, zeros-bits}
-use Rattle.capture_rules.specs.Capture.{characterCount, charactersOf, closingBits, legal, byteCount, packOf}
+use Rattle.capture_rules.specs.Capture.{characterCount, charactersOf, closingBits, byteCount, packOf}
 
 -- the ten bits from bit 10 i on, which lie in two bytes
 abbrev pub characterAt : List ℕ → ℕ → ℕ

@@ -1,14 +1,14 @@
 -- Wrong packers and unpackers, each refused by what is asked of any.
 -- Assumes nothing.
-use mathlib.Core.Path.{_≡_, refl, sym, ap, _∙_}
+use mathlib.Core.Path.{_≡_, sym, ap, _∙_}
 use mathlib.Core.List.{List, [], _∷_, _++_, reverse}
-use Prim.Native.Nat.{ℕ, zero, suc, _-_, _*_, _≤_}
+use Prim.Native.Nat.{ℕ, zero, suc, _-_, _*_}
 use native.Mathlib.Omega.{arith}
 use lib.Dec.{lit≤}
 use lib.ListN.{length, getD, take, drop, replicate}
 use Rattle.laws.specs.Bits.{bits}
 use Rattle.laws.specs.Groups.{number}
-use Rattle.capture_rules.specs.Capture.{byteCount, packOf}
+use Rattle.capture_rules.specs.Capture.{byteCount}
 use Rattle.capture_rules.specs.Calls.{Said, answered, refused, packSays}
 use Rattle.capture_rules.specs.Demands.{Call, Packable, Packs, RoundTrip}
 

@@ -1,6 +1,6 @@
 -- What each call on a capture answers, and what it leaves in lent memory: document 01, "Captures" and "Numbered refusals".
 use Prim.Native.Nat.{ℕ}
-use mathlib.Core.Bool.{Bool, not}
+use mathlib.Core.Bool.{not}
 use mathlib.Core.List.{List, [], _∷_, _++_}
 use mathlib.Core.Option.{Option, none, some}
 use lib.Dec.{ltb}

@@ -1,21 +1,20 @@
 -- Numbers of one width as a line of bits: there and back, and any part of the line as the two numbers that it lies in.
 -- Assumes nothing.
 use mathlib.Core.Path.{_≡_, refl, sym, ap, ap₂, _∙_, subst}
-use mathlib.Core.Bool.{Bool, true, false, _&&_}
-use mathlib.Core.List.{List, [], _∷_, _++_, append-assoc, append-nil}
-use Prim.Native.Nat.{ℕ, zero, suc, _+_, _-_, _*_, _/_, _%_, _^_, _≤_, _<_}
-use native.Mathlib.Nat.{zero-add, suc-add, add-suc, add-zero, mod-eq-of-lt, mul-zero, not-suc-le-zero, le-of-suc-le-suc}
+use mathlib.Core.Bool.{Bool, _&&_}
+use mathlib.Core.List.{List, [], _∷_, _++_, append-assoc}
+use Prim.Native.Nat.{ℕ, zero, suc, _+_, _*_, _/_, _^_, _≤_, _<_}
+use native.Mathlib.Nat.{mod-eq-of-lt, mul-zero, not-suc-le-zero, le-of-suc-le-suc}
 use native.Mathlib.Numerals.{add-one}
 use native.Mathlib.Omega.{arith}
-use lib.Dec.{T, eqb, eqb→eq, eqb-refl, ltb, ltb→lt, lt→ltb}
-use lib.ListN.{length, take, drop, getD, replicate, length-append, length-drop, length-replicate}
+use lib.Dec.{T, ltb, ltb→lt, lt→ltb}
+use lib.ListN.{length, take, drop, getD, replicate, length-append, length-drop}
 use lib.Seq.{take-at, drop-at, take-add, drop-drop, drop-nil, drop-cons, length-take-le, take-append-le, drop-append-le}
-use lib.Pow.{split}
 use Rattle.laws.specs.Bits.{bits}
 use Rattle.laws.specs.Lists.{allOf}
 use Rattle.laws.specs.Groups.{allBelow, bitsOf, number, numbers}
 use Rattle.laws.proofs.Bools.{and-left, and-right, and-both}
-use Rattle.laws.proofs.Bits.{length-bits, bits-below, number-bits, number-lt, bits-number, bits-append, bits-low, drop-bits, take-bits}
+use Rattle.laws.proofs.Bits.{length-bits, bits-below, number-bits, number-lt, bits-number, bits-append, drop-bits, take-bits}
 
 -- what a test says of a whole list, it says of a part, and of two lists together
 module _ {A : Type 0} (f : A → Bool) where

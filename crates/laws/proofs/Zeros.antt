@@ -1,19 +1,18 @@
 -- Bits that are all zero: a line of zeros, and a number that the power of two divides.
 -- Assumes nothing.
 use mathlib.Core.Path.{_≡_, refl, sym, ap, ap₂, _∙_, subst}
-use mathlib.Core.Bool.{Bool, true, false, _&&_}
-use mathlib.Core.List.{List, [], _∷_, _++_}
+use mathlib.Core.List.{List, [], _∷_}
 use Prim.Native.Nat.{ℕ, zero, suc, _+_, _*_, _/_, _%_, _^_}
-use native.Mathlib.Nat.{add-zero, zero-div, zero-mod}
+use native.Mathlib.Nat.{add-zero, zero-div}
 use native.Mathlib.Omega.{arith}
-use lib.Dec.{T, eqb, eqb→eq, eqb-refl}
+use lib.Dec.{T, eqb, eqb→eq}
 use lib.ListN.{length, replicate}
 use lib.Pow.{split}
 use Rattle.laws.specs.Bits.{bits}
 use Rattle.laws.specs.Groups.{allZero, number}
 use Rattle.laws.proofs.Bools.{and-left, and-right}
 use Rattle.laws.proofs.Iff.{iff-eq}
-use Rattle.laws.proofs.Bits.{length-bits, number-bits, bits-low}
+use Rattle.laws.proofs.Bits.{number-bits, bits-low}
 use Rattle.laws.proofs.Groups.{all-replicate}
 
 pub zeros-line : (bs : List ℕ) → T (allZero bs) → bs ≡ replicate (length bs) 0

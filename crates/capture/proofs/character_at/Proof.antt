@@ -1,11 +1,10 @@
 -- Each refusal in its order, and the character.
 -- Assumes nothing.
 use borrow.Author.Needs.{needs}
-use mathlib.Core.Path.{_≡_, sym, _∙_}
+use mathlib.Core.Path.{sym, _∙_}
 use native.Mathlib.Omega.{arith}
 use borrow.Author.Tests.{not-true, not-false, le-ltb, lt-ltb}
 use Rattle.laws.proofs.Bools.{true-T}
-use Rattle.capture_rules.specs.Capture.{legal}
 use Rattle.capture_rules.specs.Calls.{characterSays}
 use Rattle.capture_rules.proofs.Packing.{legal-size}
 use Rattle.capture.proofs.character_at.Statement.{statement}
