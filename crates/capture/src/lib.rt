@@ -128,10 +128,10 @@ pub fn character_at(capture: &[u8], place: usize) -> Answer
     if !is_legal(capture) {
         return Answer::Refused(refusal::BAD_CAPTURE);
     }
-    if 8 * capture.len() / 10 <= place {
-        return Answer::Refused(refusal::OUT_OF_RANGE);
+    if place < 8 * capture.len() / 10 {
+        return Answer::Number(character_of(capture, place) as usize);
     }
-    Answer::Number(character_of(capture, place) as usize)
+    Answer::Refused(refusal::OUT_OF_RANGE)
 }
 
 // Packs characters into the front of `out`; answers the number of bytes.
@@ -159,10 +159,10 @@ pub fn unpack(capture: &[u8], out: &mut [u16]) -> Answer
     if !is_legal(capture) {
         return Answer::Refused(refusal::BAD_CAPTURE);
     }
-    let n = 8 * capture.len() / 10;
-    if out.len() < n {
+    let count = 8 * capture.len() / 10;
+    if out.len() < count {
         return Answer::Refused(refusal::SHORT_OUTPUT);
     }
-    store_characters(capture, n, out);
-    Answer::Number(n)
+    store_characters(capture, count, out);
+    Answer::Number(count)
 }

@@ -19,10 +19,10 @@ pub fn place_in(capture: &[u8], place: usize) -> Answer
     if !is_legal(capture) {
         return Answer::Refused(refusal::BAD_CAPTURE);
     }
-    if 8 * capture.len() / 10 < place {
-        return Answer::Refused(refusal::OUT_OF_RANGE);
+    if place <= 8 * capture.len() / 10 {
+        return Answer::Number(place);
     }
-    Answer::Number(place)
+    Answer::Refused(refusal::OUT_OF_RANGE)
 }
 
 // The pane is not moved.
