@@ -19,7 +19,7 @@ character-or-zero-requires c κs = search needs
 mul-two : tie.Need-mul-two
 mul-two c = let s = c .before .before in
     let t = true-T _ (s .pre .0) in
-    omega (arith, getD-below 1024 (s .args .characters .now) (omega arith) t (8 * s .args .k / 10))
+    omega (arith, getD-below 1024 (s .args .characters .now) (omega arith) t (8 * s .args .k / 10), getD-below 1024 (s .args .characters .now) (omega arith) t (8 * s .args .k / 10 + 1))
 
 add-character-or-zero : tie.Need-add-character-or-zero
 add-character-or-zero c = search needs

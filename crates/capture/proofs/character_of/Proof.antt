@@ -19,7 +19,7 @@ wide8-requires : tie.Need-wide8-requires
 wide8-requires c κs = search needs
 
 mul-two : tie.Need-mul-two
-mul-two c = let a = c .before .before .before .args in omega (arith, c .before .shared-slice-known2 .given (10 * a .i / 8))
+mul-two c = let a = c .before .before .before .args in omega (arith, c .before .shared-slice-known2 .given (10 * a .i / 8), c .before .shared-slice-known2 .given (10 * a .i / 8 + 1))
 
 add-wide8 : tie.Need-add-wide8
 add-wide8 c = search needs

@@ -30,7 +30,7 @@ shared-slice-read-if1 c = omega arith
 returns : tie.Need-returns Inv-loop μ-loop
 returns c = let xs = c .before .before .before .before .args .characters .now in
     let l = c .before .before .before .loop in
-    sym (ap (λ (b : Bool). b && allBelow 1024 (drop (l .i + 1) xs)) (le-ltb (getD xs (l .i) 0) 1024 (c .if1 .taken)))
+    sym (ap (λ (b : Bool). b && allBelow 1024 (drop (l .i + 1) xs)) (le-ltb (getD xs (l .i) 0) 1024 (omega arith)))
     ∙ sym (all-from (λ (n : ℕ). ltb n 1024) 0 (l .i) xs (c .before .before .loop-test .taken))
     ∙ l .inv .1
 

@@ -12,10 +12,10 @@ use Rattle.capture.proofs.is_legal.Statement.{statement}
 use Rattle.capture.proofs.is_legal.Tie as tie
 
 returns : tie.Need-returns
-returns c = sym (legal-long (c .before .before .args .capture .now) (c .if1 .taken))
+returns c = sym (legal-long (c .before .before .args .capture .now) (omega arith))
 
 returns-2 : tie.Need-returns-2
-returns-2 c = sym (legal-one (c .before .before .before .args .capture .now) (c .before .if1 .left) (c .if2 .taken))
+returns-2 c = sym (legal-one (c .before .before .before .args .capture .now) (omega arith) (omega arith))
 
 returns-3 : tie.Need-returns-3
 returns-3 c = sym (legal-empty (c .before .before .before .before .args .capture .now) (c .if3 .taken))
@@ -39,12 +39,12 @@ shl-result : tie.Need-shl-result
 shl-result c = search needs
 
 rem-result : tie.Need-rem-result
-rem-result c = one-up-pos (8 * length (c .before .before .before .before .before .before .args .capture .now) % 10) (omega arith)
+rem-result c = one-up-pos _ (omega arith)
 
 returns-4 : tie.Need-returns-4
 returns-4 c = let bytes = c .before .before .before .before .before .before .args .capture .now in
-    ap₂ (λ (x y : ℕ). eqb (x % y) 0) (c .wide8 .ensures) (one-up (8 * length bytes % 10) (omega arith))
-    ∙ sym (legal-last bytes (c .before .before .before .before .if1 .left) (c .before .before .before .if2 .left))
+    ap₂ (λ (x y : ℕ). eqb (x % y) 0) (c .wide8 .ensures) (one-up _ (omega arith))
+    ∙ sym (legal-last bytes (omega arith) (c .before .before .before .if2 .left))
 
 pub is-legal-spec : {M : Type 1} → statement M
 is-legal-spec =

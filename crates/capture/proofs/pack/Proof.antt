@@ -3,19 +3,22 @@
 use borrow.Author.Needs.{needs}
 use borrow.Author.Tests.{not-true, not-false}
 use mathlib.Core.Path.{refl, sym, _∙_}
+use native.Mathlib.Omega.{arith}
 use Rattle.capture_rules.proofs.Laws.{pack-too-many, pack-out-of-range, pack-short-output, pack-done}
 use Rattle.capture.proofs.pack.Statement.{statement}
 use Rattle.capture.proofs.pack.Tie as tie
 
 returns : tie.Need-returns
-returns c = let p = pack-too-many _ (c .before .before .before .args .out .now) (c .if1 .taken) in (sym (p .answer), sym (p .output))
+returns c = let a = c .before .before .before .args in
+    let p = pack-too-many (a .characters .now) (a .out .now) (omega arith) in (sym (p .answer), sym (p .output))
 
 in-range-requires : tie.Need-in-range-requires
 in-range-requires c κs = search needs
 
 returns-2 : tie.Need-returns-2
 returns-2 c =
-    let p = pack-out-of-range _ (c .before .before .before .before .before .args .out .now) (c .before .before .if1 .left) (sym (c .before .in-range .ensures) ∙ not-true _ (c .if2 .taken)) in
+    let a = c .before .before .before .before .before .args in
+    let p = pack-out-of-range (a .characters .now) (a .out .now) (omega arith) (sym (c .before .in-range .ensures) ∙ not-true _ (c .if2 .taken)) in
     (sym (p .answer), sym (p .output))
 
 mul-n : tie.Need-mul-n
@@ -26,11 +29,12 @@ add-n c = search needs
 
 returns-3 : tie.Need-returns-3
 returns-3 c =
-    let p = pack-short-output _ (c .before .before .before .before .before .before .args .out .now) (c .before .before .before .if1 .left) (sym (c .before .before .in-range .ensures) ∙ not-false _ (c .before .if2 .left)) (c .if3 .taken) in
+    let a = c .before .before .before .before .before .before .args in
+    let p = pack-short-output (a .characters .now) (a .out .now) (omega arith) (sym (c .before .before .in-range .ensures) ∙ not-false _ (c .before .if2 .left)) (omega arith) in
     (sym (p .answer), sym (p .output))
 
 store-bytes-requires : tie.Need-store-bytes-requires
-store-bytes-requires c κs = (sym (c .before .before .before .in-range .ensures) ∙ not-false _ (c .before .before .if2 .left), c .before .before .before .before .if1 .left, refl, c .before .if3 .left)
+store-bytes-requires c κs = (sym (c .before .before .before .in-range .ensures) ∙ not-false _ (c .before .before .if2 .left), omega arith, refl, omega arith)
 
 same-length : tie.Need-same-length
 same-length c = search needs
@@ -38,7 +42,8 @@ same-length c = search needs
 returns-4 : tie.Need-returns-4
 returns-4 c =
     let d = c .before .before .before .before in
-    let p = pack-done _ (d .before .before .before .before .before .before .args .out .now) (d .before .before .before .if1 .left) (sym (d .before .before .in-range .ensures) ∙ not-false _ (d .before .if2 .left)) (d .if3 .left) in
+    let a = d .before .before .before .before .before .before .args in
+    let p = pack-done (a .characters .now) (a .out .now) (omega arith) (sym (d .before .before .in-range .ensures) ∙ not-false _ (d .before .if2 .left)) (omega arith) in
     (sym (p .answer), c .before .before .store-bytes .ensures ∙ sym (p .output))
 
 pub pack-spec : {M : Type 1} → statement M
