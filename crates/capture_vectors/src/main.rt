@@ -133,11 +133,15 @@ fn place_case(s: &[u8], place: usize) {
 }
 
 // Outputs that are too short or just long enough, characters over 1,023, and both.
-fn refusal_cases() {
+fn pack_refusal_cases() {
     pack_case(&BENCH, &mut [0xEEu8; 2]);
     pack_case(&BENCH, &mut [0xEEu8; 3]);
     pack_case(&[1023, 1024], &mut [0xEEu8; 5]);
     pack_case(&[1024, 1023], &mut [0xEEu8; 0]);
+}
+
+// The same for unpacking, and captures that are not legal.
+fn unpack_refusal_cases() {
     unpack_case(&[0x3E, 0xAA, 0xA0], &mut [4444u16; 1]);
     unpack_case(&[0x3E, 0xAA, 0xA0], &mut [4444u16; 2]);
     unpack_case(&[0x3E, 0xAA, 0xA8], &mut [4444u16; 2]);
@@ -169,20 +173,28 @@ fn length_of(s: &mut [u8], n: usize) {
     }
 }
 
-fn length_cases() {
-    let mut s = [0u8; 65537];
+fn shortest_cases() {
+    let mut s = [0u8; 5];
     length_of(&mut s, 0);
     length_of(&mut s, 1);
     length_of(&mut s, 2);
     length_of(&mut s, 3);
     length_of(&mut s, 4);
     length_of(&mut s, 5);
+}
+
+fn short_cases() {
+    let mut s = [0u8; 11];
     length_of(&mut s, 6);
     length_of(&mut s, 7);
     length_of(&mut s, 8);
     length_of(&mut s, 9);
     length_of(&mut s, 10);
     length_of(&mut s, 11);
+}
+
+fn longest_cases() {
+    let mut s = [0u8; 65537];
     length_of(&mut s, 65532);
     length_of(&mut s, 65533);
     length_of(&mut s, 65534);
@@ -266,8 +278,11 @@ fn place_cases(s: &[u8]) {
 fn main() {
     pack_case(&BENCH, &mut [0xEEu8; 5]);
     pattern_cases();
-    refusal_cases();
-    length_cases();
+    pack_refusal_cases();
+    unpack_refusal_cases();
+    shortest_cases();
+    short_cases();
+    longest_cases();
     many_cases();
     place_cases(&[0x3E, 0xAA, 0xA0]);
     place_case(&[0x3E, 0xAA, 0xA1], 0);
