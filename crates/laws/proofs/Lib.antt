@@ -1,6 +1,8 @@
 pub mod Bools
 pub mod Table
 pub mod Scan
+pub mod Cases
+pub mod Listed
 pub mod Bits
 pub mod Groups
 pub mod Iff
