@@ -1,5 +1,6 @@
 -- Ends in plain numbers, which go round only on the line: the rules of document 01 once more, with six choices left open.
--- `right` makes them by the rules; each wrong end is one other choice.
+-- `right` makes them by the rules; each wrong end is one other choice (a wider window has more buffers too). They hold contents and not bytes, and
+-- refuse nothing for its size, its channel or the output.
 use Prim.Native.Nat.{ℕ, _+_, _-_, _%_, min, max}
 use mathlib.Core.Bool.{Bool, true, false, not, cond, _&&_, _||_}
 use mathlib.Core.List.{List}

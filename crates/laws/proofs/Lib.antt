@@ -3,3 +3,8 @@ pub mod Table
 pub mod Scan
 pub mod Cases
 pub mod Listed
+pub mod Bits
+pub mod Groups
+pub mod Iff
+pub mod Zeros
+pub mod Stores

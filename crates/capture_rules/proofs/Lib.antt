@@ -1,0 +1,9 @@
+pub mod Packing
+pub mod Places
+pub mod Legal
+pub mod Answers
+pub mod Laws
+pub mod Panes
+pub mod Ours
+pub mod Wrong
+pub mod Bench

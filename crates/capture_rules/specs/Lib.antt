@@ -1,0 +1,4 @@
+pub mod Capture
+pub mod Calls
+pub mod Panes
+pub mod Demands
