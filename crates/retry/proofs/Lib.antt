@@ -1,3 +1,5 @@
 pub mod Calls
 pub mod Keys
 pub mod Arriving
+pub mod Offering
+pub mod Sending

@@ -4,7 +4,7 @@ ghost use Prim.Native.Nat.{_<_};
 ghost use Rattle.retry_rules.specs.Numbers.{sizeAllowed, timeAllowed, after, amongLast, oneMore, countRule};
 
 // S, the segment size, is 8, 16, 32 up to 1,024.
-pub fn size_is_allowed(size: u32) -> bool
+pub(crate) fn size_is_allowed(size: u32) -> bool
     ensures { λ r. ⌜ r ≡ sizeAllowed size ⌝ }
 {
     match size {
@@ -14,7 +14,7 @@ pub fn size_is_allowed(size: u32) -> bool
 }
 
 // T columns, 1 to 65,535.
-pub fn time_is_allowed(columns: u32) -> bool
+pub(crate) fn time_is_allowed(columns: u32) -> bool
     ensures { λ r. ⌜ r ≡ timeAllowed columns ⌝ }
 {
     if columns == 0 {
@@ -24,14 +24,14 @@ pub fn time_is_allowed(columns: u32) -> bool
 }
 
 // The number i segments after n.
-pub fn after(n: u8, i: u8) -> u8
+pub(crate) fn after(n: u8, i: u8) -> u8
     ensures { λ r. ⌜ r ≡ after n i ⌝ }
 {
     (n % 16 + i % 16) % 16
 }
 
 // One more of the last eight.
-pub fn one_more(count: u8) -> u8
+pub(crate) fn one_more(count: u8) -> u8
     ensures { λ r. ⌜ r ≡ oneMore count ⌝ }
 {
     if count < 8 { count + 1 } else { 8 }
@@ -47,7 +47,7 @@ pub(crate) fn among_last(count: u8, n: u8, k: u8) -> bool
 }
 
 // With fewer than eight counted, the number is the count: so it is from fresh.
-pub fn count_is_ruled(n: u8, count: u8) -> bool
+pub(crate) fn count_is_ruled(n: u8, count: u8) -> bool
     ensures { λ r. ⌜ r ≡ countRule n count ⌝ }
 {
     if count < 8 {

@@ -3,9 +3,26 @@
 use borrow.Author.Needs.{needs}
 use mathlib.Core.Path.{sym, _∙_}
 use native.Mathlib.Omega.{arith}
-use Rattle.retry.proofs.Arriving.{passed, fits-output, fits-length, refused-arrival, delivers, no-room, repeated, unexpected}
+use Rattle.retry.proofs.Arriving.{Arrival, Passed, passed, fits-output, fits-length, refused-arrival, delivers, no-room, repeated, unexpected}
 use Rattle.retry.proofs.receiver.arrival.Statement.{statement}
 use Rattle.retry.proofs.receiver.arrival.Tie as tie
+
+abbrev call : tie.Start → Arrival
+call c =
+    let a = c .args in
+    record {
+      receiver = a .receiver;
+      number = a .number;
+      channel = a .channel;
+      bad = a .bad;
+      bytes = a .bytes .now;
+      room = a .room;
+      output = a .output .now;
+    }
+
+-- what has been seen where it is not refused
+seen : (c : tie.Else1) → Passed (call (c .before .before .before .before))
+seen c = passed (call (c .before .before .before .before)) _ (c .before .arrival-refusal .ensures) (c .if1 .left)
 
 arrival-refusal-requires : tie.Need-arrival-refusal-requires
 arrival-refusal-requires c κs = search needs
@@ -14,19 +31,19 @@ refused-requires : tie.Need-refused-requires
 refused-requires c κs = search needs
 
 returns : tie.Need-returns
-returns c = refused-arrival (c .before .before .before .before .before .args .receiver) (c .before .before .before .before .before .args .number) (c .before .before .before .before .before .args .channel) (c .before .before .before .before .before .args .bad) (c .before .before .before .before .before .args .bytes .now) (c .before .before .before .before .before .args .room) (c .before .before .before .before .before .args .output .now) (c .before .before .arrival-refusal .result) (c .refused .result) (c .before .before .arrival-refusal .ensures) (c .before .if1 .taken) (c .refused .ensures)
+returns c = refused-arrival (call (c .before .before .before .before .before)) _ _ (c .before .before .arrival-refusal .ensures) (c .before .if1 .taken) (c .refused .ensures)
 
 cast-k : tie.Need-cast-k
-cast-k c = omega (arith, passed (c .before .before .before .before .args .receiver) (c .before .before .before .before .args .number) (c .before .before .before .before .args .channel) (c .before .before .before .before .args .bad) (c .before .before .before .before .args .bytes .now) (c .before .before .before .before .args .room) (c .before .before .before .before .args .output .now) (c .before .arrival-refusal .result) (c .before .arrival-refusal .ensures) (c .if1 .left) .number-lt)
+cast-k c = omega (arith, (seen (c)) .number-lt)
 
 lay-requires : tie.Need-lay-requires
-lay-requires c κs = omega (arith, fits-output (c .before .before .before .before .before .before .before .before .args .receiver) (c .before .before .before .before .before .before .before .before .args .number) (c .before .before .before .before .before .before .before .before .args .channel) (c .before .before .before .before .before .before .before .before .args .bad) (c .before .before .before .before .before .before .before .before .args .bytes .now) (c .before .before .before .before .before .before .before .before .args .room) (c .before .before .before .before .before .before .before .before .args .output .now) (passed (c .before .before .before .before .before .before .before .before .args .receiver) (c .before .before .before .before .before .before .before .before .args .number) (c .before .before .before .before .before .before .before .before .args .channel) (c .before .before .before .before .before .before .before .before .args .bad) (c .before .before .before .before .before .before .before .before .args .bytes .now) (c .before .before .before .before .before .before .before .before .args .room) (c .before .before .before .before .before .before .before .before .args .output .now) (c .before .before .before .before .before .arrival-refusal .result) (c .before .before .before .before .before .arrival-refusal .ensures) (c .before .before .before .before .if1 .left)) (c .before .before .if2 .taken) (c .before .if3 .taken))
+lay-requires c κs = omega (arith, fits-output (call (c .before .before .before .before .before .before .before .before)) (seen (c .before .before .before .before)) (c .before .before .if2 .taken) (c .before .if3 .taken))
 
 cast-delivered : tie.Need-cast-delivered
-cast-delivered c = omega (arith, passed (c .before .before .before .before .before .before .before .before .before .before .before .args .receiver) (c .before .before .before .before .before .before .before .before .before .before .before .args .number) (c .before .before .before .before .before .before .before .before .before .before .before .args .channel) (c .before .before .before .before .before .before .before .before .before .before .before .args .bad) (c .before .before .before .before .before .before .before .before .before .before .before .args .bytes .now) (c .before .before .before .before .before .before .before .before .before .before .before .args .room) (c .before .before .before .before .before .before .before .before .before .before .before .args .output .now) (c .before .before .before .before .before .before .before .before .arrival-refusal .result) (c .before .before .before .before .before .before .before .before .arrival-refusal .ensures) (c .before .before .before .before .before .before .before .if1 .left) .channel-lt)
+cast-delivered c = omega (arith, (seen (c .before .before .before .before .before .before .before)) .channel-lt)
 
 cast-delivered-2 : tie.Need-cast-delivered-2
-cast-delivered-2 c = omega (arith, fits-length (c .before .before .before .before .before .before .before .before .before .before .before .args .receiver) (c .before .before .before .before .before .before .before .before .before .before .before .args .number) (c .before .before .before .before .before .before .before .before .before .before .before .args .channel) (c .before .before .before .before .before .before .before .before .before .before .before .args .bad) (c .before .before .before .before .before .before .before .before .before .before .before .args .bytes .now) (c .before .before .before .before .before .before .before .before .before .before .before .args .room) (c .before .before .before .before .before .before .before .before .before .before .before .args .output .now) (passed (c .before .before .before .before .before .before .before .before .before .before .before .args .receiver) (c .before .before .before .before .before .before .before .before .before .before .before .args .number) (c .before .before .before .before .before .before .before .before .before .before .before .args .channel) (c .before .before .before .before .before .before .before .before .before .before .before .args .bad) (c .before .before .before .before .before .before .before .before .before .before .before .args .bytes .now) (c .before .before .before .before .before .before .before .before .before .before .before .args .room) (c .before .before .before .before .before .before .before .before .before .before .before .args .output .now) (c .before .before .before .before .before .before .before .before .arrival-refusal .result) (c .before .before .before .before .before .before .before .before .arrival-refusal .ensures) (c .before .before .before .before .before .before .before .if1 .left)))
+cast-delivered-2 c = omega (arith, fits-length (call (c .before .before .before .before .before .before .before .before .before .before .before)) (seen (c .before .before .before .before .before .before .before)))
 
 delivered-requires : tie.Need-delivered-requires
 delivered-requires c κs = search needs
@@ -35,28 +52,28 @@ same-length : tie.Need-same-length
 same-length c = search needs
 
 returns-2 : tie.Need-returns-2
-returns-2 c = delivers (c .before .before .before .before .before .before .before .before .before .before .before .before .args .receiver) (c .before .before .before .before .before .before .before .before .before .before .before .before .args .number) (c .before .before .before .before .before .before .before .before .before .before .before .before .args .channel) (c .before .before .before .before .before .before .before .before .before .before .before .before .args .bad) (c .before .before .before .before .before .before .before .before .before .before .before .before .args .bytes .now) (c .before .before .before .before .before .before .before .before .before .before .before .before .args .room) (c .before .before .before .before .before .before .before .before .before .before .before .before .args .output .now) (c .delivered .result) (passed (c .before .before .before .before .before .before .before .before .before .before .before .before .args .receiver) (c .before .before .before .before .before .before .before .before .before .before .before .before .args .number) (c .before .before .before .before .before .before .before .before .before .before .before .before .args .channel) (c .before .before .before .before .before .before .before .before .before .before .before .before .args .bad) (c .before .before .before .before .before .before .before .before .before .before .before .before .args .bytes .now) (c .before .before .before .before .before .before .before .before .before .before .before .before .args .room) (c .before .before .before .before .before .before .before .before .before .before .before .before .args .output .now) (c .before .before .before .before .before .before .before .before .before .arrival-refusal .result) (c .before .before .before .before .before .before .before .before .before .arrival-refusal .ensures) (c .before .before .before .before .before .before .before .before .if1 .left)) (c .before .before .before .lay .last .1 .0) (c .before .before .before .before .before .before .if2 .taken) (c .before .before .before .before .before .if3 .taken) (c .delivered .ensures) (c .before .before .before .lay .ensures)
+returns-2 c = delivers (call (c .before .before .before .before .before .before .before .before .before .before .before .before)) (seen (c .before .before .before .before .before .before .before .before)) _ _ (c .before .before .before .before .before .before .if2 .taken) (c .before .before .before .before .before .if3 .taken) (c .delivered .ensures) (c .before .before .before .lay .ensures)
 
 nack-requires : tie.Need-nack-requires
 nack-requires c κs = search needs
 
 returns-3 : tie.Need-returns-3
-returns-3 c = no-room (c .before .before .before .before .before .before .before .before .args .receiver) (c .before .before .before .before .before .before .before .before .args .number) (c .before .before .before .before .before .before .before .before .args .channel) (c .before .before .before .before .before .before .before .before .args .bad) (c .before .before .before .before .before .before .before .before .args .bytes .now) (c .before .before .before .before .before .before .before .before .args .room) (c .before .before .before .before .before .before .before .before .args .output .now) (c .nack .result) (passed (c .before .before .before .before .before .before .before .before .args .receiver) (c .before .before .before .before .before .before .before .before .args .number) (c .before .before .before .before .before .before .before .before .args .channel) (c .before .before .before .before .before .before .before .before .args .bad) (c .before .before .before .before .before .before .before .before .args .bytes .now) (c .before .before .before .before .before .before .before .before .args .room) (c .before .before .before .before .before .before .before .before .args .output .now) (c .before .before .before .before .before .arrival-refusal .result) (c .before .before .before .before .before .arrival-refusal .ensures) (c .before .before .before .before .if1 .left)) (c .before .before .if2 .taken) (c .before .if3 .left) (c .nack .ensures)
+returns-3 c = no-room (call (c .before .before .before .before .before .before .before .before)) (seen (c .before .before .before .before)) _ (c .before .before .if2 .taken) (c .before .if3 .left) (c .nack .ensures)
 
 among-last-requires : tie.Need-among-last-requires
-among-last-requires c κs = passed (c .before .before .before .before .before .before .args .receiver) (c .before .before .before .before .before .before .args .number) (c .before .before .before .before .before .before .args .channel) (c .before .before .before .before .before .before .args .bad) (c .before .before .before .before .before .before .args .bytes .now) (c .before .before .before .before .before .before .args .room) (c .before .before .before .before .before .before .args .output .now) (c .before .before .before .arrival-refusal .result) (c .before .before .before .arrival-refusal .ensures) (c .before .before .if1 .left) .number-lt
+among-last-requires c κs = (seen (c .before .before)) .number-lt
 
 undelivered-requires : tie.Need-undelivered-requires
 undelivered-requires c κs = search needs
 
 returns-4 : tie.Need-returns-4
-returns-4 c = repeated (c .before .before .before .before .before .before .before .before .before .args .receiver) (c .before .before .before .before .before .before .before .before .before .args .number) (c .before .before .before .before .before .before .before .before .before .args .channel) (c .before .before .before .before .before .before .before .before .before .args .bad) (c .before .before .before .before .before .before .before .before .before .args .bytes .now) (c .before .before .before .before .before .before .before .before .before .args .room) (c .before .before .before .before .before .before .before .before .before .args .output .now) (c .undelivered .result) (passed (c .before .before .before .before .before .before .before .before .before .args .receiver) (c .before .before .before .before .before .before .before .before .before .args .number) (c .before .before .before .before .before .before .before .before .before .args .channel) (c .before .before .before .before .before .before .before .before .before .args .bad) (c .before .before .before .before .before .before .before .before .before .args .bytes .now) (c .before .before .before .before .before .before .before .before .before .args .room) (c .before .before .before .before .before .before .before .before .before .args .output .now) (c .before .before .before .before .before .before .arrival-refusal .result) (c .before .before .before .before .before .before .arrival-refusal .ensures) (c .before .before .before .before .before .if1 .left)) (c .before .before .before .if2 .left) (sym (c .before .before .among-last .ensures) ∙ c .before .if4 .taken) (c .undelivered .ensures)
+returns-4 c = repeated (call (c .before .before .before .before .before .before .before .before .before)) (seen (c .before .before .before .before .before)) _ (c .before .before .before .if2 .left) (sym (c .before .before .among-last .ensures) ∙ c .before .if4 .taken) (c .undelivered .ensures)
 
 nack-requires-2 : tie.Need-nack-requires-2
 nack-requires-2 c κs = search needs
 
 returns-5 : tie.Need-returns-5
-returns-5 c = unexpected (c .before .before .before .before .before .before .before .before .before .args .receiver) (c .before .before .before .before .before .before .before .before .before .args .number) (c .before .before .before .before .before .before .before .before .before .args .channel) (c .before .before .before .before .before .before .before .before .before .args .bad) (c .before .before .before .before .before .before .before .before .before .args .bytes .now) (c .before .before .before .before .before .before .before .before .before .args .room) (c .before .before .before .before .before .before .before .before .before .args .output .now) (c .nack2 .result) (passed (c .before .before .before .before .before .before .before .before .before .args .receiver) (c .before .before .before .before .before .before .before .before .before .args .number) (c .before .before .before .before .before .before .before .before .before .args .channel) (c .before .before .before .before .before .before .before .before .before .args .bad) (c .before .before .before .before .before .before .before .before .before .args .bytes .now) (c .before .before .before .before .before .before .before .before .before .args .room) (c .before .before .before .before .before .before .before .before .before .args .output .now) (c .before .before .before .before .before .before .arrival-refusal .result) (c .before .before .before .before .before .before .arrival-refusal .ensures) (c .before .before .before .before .before .if1 .left)) (c .before .before .before .if2 .left) (sym (c .before .before .among-last .ensures) ∙ c .before .if4 .left) (c .nack2 .ensures)
+returns-5 c = unexpected (call (c .before .before .before .before .before .before .before .before .before)) (seen (c .before .before .before .before .before)) _ (c .before .before .before .if2 .left) (sym (c .before .before .among-last .ensures) ∙ c .before .if4 .left) (c .nack2 .ensures)
 
 pub arrival-spec : {M : Type 1} → statement M
 arrival-spec = tie.close (tie.spec arrival-refusal-requires refused-requires returns cast-k lay-requires cast-delivered cast-delivered-2 delivered-requires same-length returns-2 nack-requires returns-3 among-last-requires undelivered-requires returns-4 nack-requires-2 returns-5)
