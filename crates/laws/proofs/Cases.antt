@@ -9,6 +9,13 @@ pub by-cases : {A : Type 0} (P : A → Type 0) (b : Bool) {x y : A} → (b ≡ t
 by-cases P true f g = f refl
 by-cases P false f g = g refl
 
+pub by-both :
+    {A : Type 0} (P : A → Type 0) (a b : Bool) {x y : A} → (a ≡ true → b ≡ true → P x) → (a ≡ false → P y) → (b ≡ false → P y)
+    → P (cond (a && b) x y)
+by-both P true true f g h = f refl refl
+by-both P true false f g h = h refl
+by-both P false b f g h = g refl
+
 pub by-test : {X : Type 0} (b : Bool) → (b ≡ true → X) → (b ≡ false → X) → X
 by-test true f g = f refl
 by-test false f g = g refl

@@ -1,15 +1,13 @@
 -- Every fresh state keeps its rule, and every call hands back a state that keeps it where it was given one.
 -- Assumes nothing.
-use mathlib.Core.Path.{_≡_, refl, sym, _∙_, ap, subst}
-use mathlib.Core.Bool.{Bool, true, false, cond, _&&_}
-use Prim.Native.Nat.{ℕ, _+_, _-_, _*_, _%_, _≤_, _<_, min, max}
+use mathlib.Core.Path.{_≡_, refl, _∙_, ap}
+use mathlib.Core.Bool.{Bool, true}
+use Prim.Native.Nat.{ℕ}
 use native.Mathlib.Omega.{arith}
-use native.Mathlib.Nat.{add-zero}
-use lib.Dec.{ltb, eqb}
-use lib.ListN.{length-set, length-replicate}
-use borrow.Author.Tests.{ltb-true, ltb-false, eqb-true, eqb-false}
-use Rattle.laws.proofs.Cases.{by-cases, by-test, both-true, first-true, second-true}
-use Rattle.refusal.specs.Order.{refusalOf}
+use lib.Dec.{eqb}
+use lib.ListN.{length-set}
+use borrow.Author.Tests.{ltb-true}
+use Rattle.laws.proofs.Cases.{by-cases, both-true, first-true, second-true}
 use Rattle.retry_rules.specs.declared.Counters.{Counters}
 use Rattle.retry_rules.specs.declared.Sender.{Sender}
 use Rattle.retry_rules.specs.declared.Receiver.{Receiver}
@@ -20,18 +18,20 @@ use Rattle.retry_rules.specs.declared.Ticked.{Ticked}
 use Rattle.retry_rules.specs.declared.Begun.{Begun}
 use Rattle.retry_rules.specs.declared.Arrived.{Arrived}
 use Rattle.retry_rules.specs.Numbers.{sizeAllowed, countRule, amongLast}
-use Rattle.retry_rules.specs.States.{isDown, countersRule, slotOf, slotsRule, senderRule, receiverRule, Eight}
+use Rattle.retry_rules.specs.States.{countersRule, slotsRule, senderRule, receiverRule, Eight}
 use Rattle.retry_rules.specs.Refused.{refusedSender, refusedOffer, refusedSend, refusedTick, refusedReceiver, refusedArrival}
 use Rattle.retry_rules.specs.Fresh.{noSender, noReceiver, freshSender, freshReceiver, freshChecks, freshSenderOf, sizeChecks, freshReceiverOf, resetChecks, resetOf}
 use Rattle.retry_rules.specs.Offer.{offerChecks, oneStored, storedIn, offerOf}
-use Rattle.retry_rules.specs.Send.{toSend, sendChecks, oneSent, dueSent, nothingSent, sendOf}
-use Rattle.retry_rules.specs.Reply.{toOldest, restarted, oneReleased, acked, nacked, heard, senderChecks, replyChecks, withCounters, replyOf, damagedReplyOf}
+use Rattle.retry_rules.specs.Send.{toSend, sendChecks, oneSent, sendOf}
+use Rattle.retry_rules.specs.Reply.{toOldest, restarted, heard, senderChecks, replyChecks, withCounters, replyOf, damagedReplyOf}
 use Rattle.retry_rules.specs.Tick.{expired, fallen, ticked, tickOf}
 use Rattle.retry_rules.specs.Arrival.{arrivalChecks, advanced, answerTo, arrivalOf, receiverChecks, damagedArrivalOf}
+use Rattle.retry_rules.specs.Calls.{SenderCall, offer, send, reply, damaged-reply, tick, reset, senderCalled}
 use Rattle.retry_rules.proofs.Outcomes.{either-way}
-use Rattle.retry_rules.proofs.Rules.{Counted, counted, count-kept, Numbers, Holds, holds, keeps}
+use Rattle.retry_rules.proofs.Rules.{counted, count-kept, Numbers, Holds, keeps}
+use Rattle.retry_rules.proofs.Steps.{heard-cases, ticked-cases}
 use Rattle.retry_rules.proofs.StoredSlots.{slots-kept, Later, later-kept, stored-kept}
-use Rattle.retry_rules.proofs.Seen.{Sound, sound-rule, sender-seen, reply-seen, Offers, offer-seen, send-seen, Begins, fresh-seen, reset-seen, size-seen}
+use Rattle.retry_rules.proofs.Seen.{Sound, sender-seen, reply-seen, Offers, offer-seen, send-seen, Begins, fresh-seen, reset-seen, size-seen}
 
 -- what the counters become keeps the rule of counters, and its stored segments are in the buffers where they were
 record Moves (s : Sender) (d : Counters) : Type 0 where
@@ -48,66 +48,36 @@ unfolding senderRule
 moves-kept s d h m =
     both-true (countersRule d) (slotsRule (withCounters s d)) (keeps d (m .rule)) (later-kept s d (m .gone) (m .later) (h .slots))
 
--- replies
+-- counters that keep the window where it is
+still : (s : Sender) (d : Counters) → Sound s → Numbers d → d .oldest ≡ s .counters .oldest → d .stored ≡ s .counters .stored
+    → d .size ≡ s .counters .size → Moves s d
+still s d h n p q z =
+    record { rule = record { numbers = n; size = ap sizeAllowed z ∙ h .rule .size }; gone = 0; later = same-window s d p q z }
+
 heard-moves : (s : Sender) (nack : Bool) (k : ℕ) → Sound s → Moves s (heard (s .counters) nack k)
-unfolding heard acked nacked
 heard-moves s nack k h =
     let c = s .counters in
     let n = h .rule .numbers in
     let u = h .up in
-    let P : Counters → Type 0 = Moves s in
-    let same : P c = record { rule = h .rule; gone = 0; later = same-window s c refl refl refl } in
-    let back : P (toOldest c) =
-    record { rule = record { numbers = omega arith; size = h .rule .size }; gone = 0; later = same-window s (toOldest c) refl refl refl } in
-    by-cases P (eqb (c .outstanding) 0) (λ t. same)
-    (λ t.
-    let ne = eqb-false (c .outstanding) 0 t in
-    by-cases P nack
-    (λ _. by-cases (λ d. P (toOldest d)) (eqb k (c .oldest))
-    (λ _. record {
-      rule = record { numbers = omega arith; size = h .rule .size };
-      gone = 0;
-      later = same-window s (toOldest (restarted c)) refl refl refl;
-    })
-    (λ _. back))
-    (λ _. by-cases P (eqb k (c .oldest))
-    (λ _. record {
+    let same : Moves s c = still s c h n refl refl refl in
+    let back : Moves s (toOldest c) = still s (toOldest c) h (omega arith) refl refl refl in
+    heard-cases (Moves s) c nack k (λ _. same) (λ _ _ _. still s (toOldest (restarted c)) h (omega arith) refl refl refl)
+    (λ _ _ _. back)
+    (λ some _ _. record {
       rule = record { numbers = omega arith; size = h .rule .size };
       gone = 1;
       later = record { same-size = refl; fewer = omega arith; moved = λ i. omega arith };
     })
-    (λ _. by-cases P (amongLast (c .released) (c .oldest) k) (λ _. same) (λ _. back))))
+    (λ _ _ _ _. same) (λ _ _ _ _. back)
 
--- ticks
 ticked-moves : (s : Sender) → Sound s → Moves s (ticked (s .counters))
-unfolding ticked
 ticked-moves s h =
     let c = s .counters in
     let n = h .rule .numbers in
     let u = h .up in
-    let P : Counters → Type 0 = Moves s in
-    by-cases P (eqb (c .outstanding) 0) (λ t. record { rule = h .rule; gone = 0; later = same-window s c refl refl refl })
-    (λ t.
-    let ne = eqb-false (c .outstanding) 0 t in
-    by-cases P (eqb (c .timer) 1)
-    (λ e. by-cases P (ltb (c .expiries) 2)
-    (λ f.
-    let lt = ltb-true (c .expiries) 2 f in
-    record {
-      rule = record { numbers = omega arith; size = h .rule .size };
-      gone = 0;
-      later = same-window s (toOldest (expired c)) refl refl refl;
-    })
-    (λ f.
-    let ge = ltb-false (c .expiries) 2 f in
-    record {
-      rule = record { numbers = omega arith; size = h .rule .size };
-      gone = 0;
-      later = same-window s (fallen (expired c)) refl refl refl;
-    }))
-    (λ e.
-    let more = eqb-false (c .timer) 1 e in
-    record { rule = record { numbers = omega arith; size = h .rule .size }; gone = 0; later = same-window s _ refl refl refl }))
+    ticked-cases (Moves s) c (λ _. still s c h n refl refl refl) (λ some more. still s _ h (omega arith) refl refl refl)
+    (λ some one few. still s (toOldest (expired c)) h (omega arith) refl refl refl)
+    (λ some one two. still s (fallen (expired c)) h (omega arith) refl refl refl)
 
 sent-moves : (s : Sender) → Sound s → toSend (s .counters) ≡ true → Moves s (oneSent (s .counters))
 sent-moves s h t =
@@ -115,7 +85,7 @@ sent-moves s h t =
     let n = h .rule .numbers in
     let u = h .up in
     let lt = ltb-true (c .point) (c .stored) t in
-    record { rule = record { numbers = omega arith; size = h .rule .size }; gone = 0; later = same-window s (oneSent c) refl refl refl }
+    still s (oneSent c) h (omega arith) refl refl refl
 
 stored-rule : (s : Sender) (lent channel : ℕ) (bad : Bool) (n : ℕ) → Eight s → Offers s lent channel n → senderRule (storedIn s channel bad n) ≡ true
 unfolding senderRule
@@ -191,9 +161,9 @@ reset-kept given t s q =
     (λ p. fresh-rule t s (reset-seen given t s p)) (λ _. q)
 
 -- each call leaves the arrays their eight places
-pub offer-eight : (s : Sender) (lent channel : ℕ) (bad : Bool) (n : ℕ) → Eight s → Eight (offerOf s lent channel bad n .sender)
-unfolding offerOf
-offer-eight s lent channel bad n e =
+pub eight-after : (s : Sender) (c : SenderCall) → Eight s → Eight (senderCalled s c)
+unfolding offerOf sendOf replyOf damagedReplyOf tickOf resetOf
+eight-after s (offer lent channel bad n) e =
     either-way (offerChecks s lent channel n) (λ (a : Offered). Eight (a .sender)) (refusedOffer s) _
     (λ _. record {
       lengths = length-set (s .slots .lengths) _ n ∙ e .lengths;
@@ -201,6 +171,21 @@ offer-eight s lent channel bad n e =
       bad = length-set (s .slots .bad) _ bad ∙ e .bad;
     })
     (λ _. e)
+eight-after s (send lent output) e =
+    let P : Sent → Type 0 = λ a. Eight (a .sender) in
+    either-way (sendChecks s lent output) P (refusedSend s) _
+    (λ _. by-cases P (toSend (s .counters)) (λ _. record { lengths = e .lengths; channels = e .channels; bad = e .bad }) (λ _. e)) (λ _. e)
+eight-after s (reply nack k) e =
+    either-way (replyChecks s k) (λ (a : Answered). Eight (a .sender)) (refusedSender s) _
+    (λ _. record { lengths = e .lengths; channels = e .channels; bad = e .bad }) (λ _. e)
+eight-after s damaged-reply e =
+    either-way (senderChecks s) (λ (a : Answered). Eight (a .sender)) (refusedSender s) _ (λ _. e) (λ _. e)
+eight-after s tick e =
+    either-way (senderChecks s) (λ (a : Ticked). Eight (a .sender)) (refusedTick s) _
+    (λ _. record { lengths = e .lengths; channels = e .channels; bad = e .bad }) (λ _. e)
+eight-after s (reset t size) e =
+    either-way (resetChecks s t size) (λ (a : Answered). Eight (a .sender)) (refusedSender s) _
+    (λ _. record { lengths = refl; channels = refl; bad = refl }) (λ _. e)
 
 -- the receiver
 advanced-rule : (r : Receiver) → receiverRule r ≡ true → receiverRule (advanced r) ≡ true

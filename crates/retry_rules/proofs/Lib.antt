@@ -1,5 +1,6 @@
 pub mod Outcomes
 pub mod Rules
+pub mod Steps
 pub mod StoredSlots
 pub mod Seen
 pub mod Kept
@@ -7,4 +8,11 @@ pub mod Refusals
 pub mod Done
 pub mod Laid
 pub mod Held
+pub mod LastEight
+pub mod ReceiverHistory
+pub mod Honest
+pub mod OfferFull
+pub mod SenderHistory
+pub mod NoState
+pub mod Wrong
 pub mod BenchRows

@@ -1,7 +1,7 @@
 -- What a call has passed where it is not refused, and what its answer comes to, whatever its checks.
 -- Assumes nothing.
 use mathlib.Core.Path.{_≡_, refl, sym, _∙_, ap, subst}
-use mathlib.Core.Bool.{Bool, true, false, not, cond, _&&_, _||_}
+use mathlib.Core.Bool.{Bool, true, false, not, cond, _||_}
 use mathlib.Core.List.{List, [], _∷_}
 use Prim.Native.Nat.{ℕ}
 use native.Mathlib.Omega.{arith}
@@ -9,7 +9,7 @@ use lib.Dec.{T, eqb, ltb}
 use borrow.Author.Tests.{eq-eqb, eqb-true, eqb-false, ltb-true, not-true}
 use Rattle.laws.specs.Lists.{allOf, oneOf}
 use Rattle.laws.proofs.Bools.{and-left, and-right, and-both, T-true, true-T}
-use Rattle.laws.proofs.Cases.{by-cases, by-test, cond-true, cond-false, false-is-not-true}
+use Rattle.laws.proofs.Cases.{by-cases, by-test, cond-false, false-is-not-true}
 use Rattle.refusal.specs.Order.{Check, order, given, firstOf, refusalOf, outcome}
 use Rattle.refusal.proofs.Laws.{refused}
 

@@ -1,22 +1,18 @@
 -- The written rules, in numbers: what a state that keeps its rule has, and that what has it keeps the rule.
 -- Assumes nothing.
-use mathlib.Core.Path.{_≡_, refl, sym, _∙_, ap, subst}
-use mathlib.Core.Bool.{Bool, true, false, cond, _&&_, _||_}
-use mathlib.Core.List.{List, [], _∷_}
-use Prim.Native.Nat.{ℕ, zero, suc, _+_, _-_, _*_, _/_, _%_, _≤_, _<_}
+use mathlib.Core.Path.{_≡_, subst}
+use mathlib.Core.Bool.{Bool, true, _&&_, _||_}
+use mathlib.Core.List.{[], _∷_}
+use Prim.Native.Nat.{ℕ, _+_, _*_, _/_, _≤_, _<_}
 use native.Mathlib.Omega.{arith}
 use lib.Dec.{ltb, leb, eqb}
-use lib.ListN.{getD}
 use borrow.Author.Tests.{ltb-true, ltb-false, leb-true, eqb-true, eqb-false, lt-ltb, le-leb, eq-eqb}
-use Rattle.laws.specs.Lists.{oneOf}
 use Rattle.laws.proofs.Bools.{T-true, true-T}
 use Rattle.laws.proofs.Listed.{one-of-all}
-use Rattle.laws.proofs.Cases.{by-cases, by-test, both-true, first-true, second-true, either-true, false-is-not-true}
+use Rattle.laws.proofs.Cases.{by-cases, by-test, both-true, first-true, second-true, either-true}
 use Rattle.retry_rules.specs.declared.Counters.{Counters}
-use Rattle.retry_rules.specs.declared.Sender.{Sender}
-use Rattle.retry_rules.specs.declared.Receiver.{Receiver}
-use Rattle.retry_rules.specs.Numbers.{sizeAllowed, timeAllowed, countRule, everyBelow}
-use Rattle.retry_rules.specs.States.{isUp, isDown, linkRule, timerRule, windowRule, countersRule, slotOf, slotRule, slotsRule, senderRule, receiverRule}
+use Rattle.retry_rules.specs.Numbers.{sizeAllowed, timeAllowed, countRule}
+use Rattle.retry_rules.specs.States.{isUp, isDown, linkRule, timerRule, windowRule, countersRule}
 
 -- a number and the count of the last eight before it. A count below eight is the number itself
 pub record Counted (n count : ℕ) : Type 0 where

@@ -1,16 +1,15 @@
 -- What a call that is not refused has seen, and that what is so seen is not refused.
 -- Assumes nothing.
-use mathlib.Core.Path.{_≡_, refl, sym, _∙_, ap, subst}
-use mathlib.Core.Bool.{Bool, true, false, not, cond, _&&_}
-use mathlib.Core.List.{List, [], _∷_}
-use Prim.Native.Nat.{ℕ, _+_, _*_, _≤_, _<_}
+use mathlib.Core.Path.{_≡_, refl, sym, ap, subst}
+use mathlib.Core.Bool.{Bool, true, false, not, _&&_}
+use mathlib.Core.List.{List}
+use Prim.Native.Nat.{ℕ, _*_, _≤_, _<_}
 use native.Mathlib.Omega.{arith}
 use lib.Dec.{T, ltb, leb, eqb}
-use borrow.Author.Tests.{ltb-true, ltb-false, leb-true, eqb-true, eqb-false, lt-ltb, le-ltb, le-leb, eq-eqb, ne-eqb, not-true, not-false}
+use borrow.Author.Tests.{ltb-true, ltb-false, leb-true, eqb-true, eqb-false, lt-ltb, le-ltb, le-leb, eq-eqb, ne-eqb, not-false}
 use Rattle.laws.proofs.Bools.{T-true, true-T}
-use Rattle.laws.proofs.Cases.{by-test, both-true, first-true, second-true, false-is-not-true}
+use Rattle.laws.proofs.Cases.{both-true, first-true, second-true, false-is-not-true}
 use Rattle.refusal.specs.Order.{Check, refusalOf}
-use Rattle.retry_rules.specs.declared.Counters.{Counters}
 use Rattle.retry_rules.specs.declared.Sender.{Sender}
 use Rattle.retry_rules.specs.declared.Receiver.{Receiver}
 use Rattle.retry_rules.specs.Numbers.{sizeAllowed, timeAllowed}
@@ -49,10 +48,14 @@ pub record Sound (s : Sender) : Type 0 where
   pub rule : Holds (s .counters)
   pub slots : slotsRule s ≡ true
 
+pub rule-holds : (s : Sender) → senderRule s ≡ true → Holds (s .counters)
+unfolding senderRule
+rule-holds s q = holds (s .counters) (first-true (countersRule (s .counters)) (slotsRule s) q)
+
 pub sound : (s : Sender) → isDown (s .counters) ≡ false → senderRule s ≡ true → Sound s
 unfolding senderRule
 sound s d q =
-    let h = holds (s .counters) (first-true (countersRule (s .counters)) (slotsRule s) q) in
+    let h = rule-holds s q in
     let ne = eqb-false (s .counters .link) 2 d in
     let n = h .numbers in
     record { up = omega arith; rule = h; slots = second-true (countersRule (s .counters)) (slotsRule s) q }

@@ -1,16 +1,16 @@
 -- The slots of the stored segments: what their rule says of each, and what leaves it kept.
 -- Assumes nothing.
 use mathlib.Core.Path.{_≡_, refl, sym, _∙_, ap, subst}
-use mathlib.Core.Bool.{Bool, true, false, _&&_}
-use mathlib.Core.List.{List}
+use mathlib.Core.Bool.{Bool, true, false}
 use mathlib.Core.Logic.{_≢_}
-use Prim.Native.Nat.{ℕ, zero, suc, _+_, _-_, _*_, _%_, _≤_, _<_}
+use Prim.Native.Nat.{ℕ, zero, suc, _+_, _≤_, _<_}
 use native.Mathlib.Omega.{arith}
 use native.Mathlib.Nat.{not-suc-le-zero}
+use native.Mathlib.Numerals.{add-one}
 use lib.Dec.{ltb, leb, eqb}
-use lib.ListN.{length, getD, set}
+use lib.ListN.{getD, set}
 use lib.Seq.{getD-set-same, getD-set-other}
-use borrow.Author.Tests.{ltb-true, ltb-false, leb-true, eqb-true, eqb-false, lt-ltb, le-leb}
+use borrow.Author.Tests.{ltb-true, leb-true, eqb-true, eqb-false, lt-ltb, le-leb}
 use Rattle.laws.proofs.Cases.{by-test, both-true, first-true, second-true, false-is-not-true}
 use Rattle.retry_rules.specs.declared.Counters.{Counters}
 use Rattle.retry_rules.specs.declared.Sender.{Sender}
@@ -33,6 +33,9 @@ pub every-all : (n : ℕ) (f : ℕ → Bool) → ((i : ℕ) → i < n → f i �
 every-all zero f h = refl
 every-all (suc n) f h =
     both-true (everyBelow n f) (f n) (every-all n f (λ i l. h i (omega arith))) (h n (omega arith))
+
+pub every-more : (n : ℕ) (f : ℕ → Bool) → everyBelow n f ≡ true → f n ≡ true → everyBelow (n + 1) f ≡ true
+every-more n f p q = rw add-one (both-true (everyBelow n f) (f n) p q)
 
 pub every-fails : (n : ℕ) (f : ℕ → Bool) (i : ℕ) → i < n → f i ≡ false → everyBelow n f ≡ false
 every-fails n f i h q =

@@ -1,7 +1,6 @@
 -- Document 01, "On the bench": the rows on the retry, as runs of the public definitions from fresh ends. Whole answers are compared.
 use mathlib.Core.Path.{_≡_}
 use mathlib.Core.Bool.{Bool, true, false}
-use mathlib.Core.List.{List, [], _∷_}
 use Prim.Native.Nat.{ℕ, zero, suc, _%_}
 use Rattle.retry_rules.specs.declared.Sender.{Sender}
 use Rattle.retry_rules.specs.declared.Receiver.{Receiver}

@@ -1,6 +1,6 @@
 -- A fresh sender of T and S, a fresh receiver of S, and the reset of a sender.
 use Prim.Native.Nat.{ℕ}
-use mathlib.Core.Bool.{Bool, false, not}
+use mathlib.Core.Bool.{false, not}
 use mathlib.Core.List.{List, [], _∷_}
 use lib.ListN.{replicate}
 use Rattle.refusal.specs.Order.{Check, check, outcome}

@@ -9,3 +9,7 @@ pub mod Reply
 pub mod Tick
 pub mod Arrival
 pub mod Bench
+pub mod Calls
+pub mod Ledger
+pub mod History
+pub mod Runs

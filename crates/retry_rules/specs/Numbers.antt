@@ -1,7 +1,7 @@
 -- Document 01, "Retry": segments are numbered 0 to 15 and round; "the last eight really received" and "really released".
 use Prim.Native.Nat.{ℕ, zero, suc, _+_, _-_, _%_, min}
 use mathlib.Core.Bool.{Bool, true, cond, _&&_}
-use mathlib.Core.List.{List, [], _∷_}
+use mathlib.Core.List.{[], _∷_}
 use lib.Dec.{ltb, leb, eqb}
 use Rattle.laws.specs.Lists.{oneOf}
 

@@ -1,6 +1,6 @@
 -- An offer: a segment is stored, if there is a free buffer, and gets the number after the last stored one.
 -- `lent` is the length of the run of eight buffers, n the number of bytes offered.
-use Prim.Native.Nat.{ℕ, _+_, _*_}
+use Prim.Native.Nat.{ℕ, _+_}
 use mathlib.Core.Bool.{Bool, not}
 use mathlib.Core.List.{List, [], _∷_}
 use lib.Dec.{ltb, eqb}

@@ -1,6 +1,6 @@
 -- A tick: one column. The timer runs while something is outstanding; the T-th tick since its start is its expiry.
-use Prim.Native.Nat.{ℕ, _+_, _-_}
-use mathlib.Core.Bool.{Bool, cond}
+use Prim.Native.Nat.{_+_, _-_}
+use mathlib.Core.Bool.{cond}
 use lib.Dec.{ltb, eqb}
 use Rattle.refusal.specs.Order.{outcome}
 use Rattle.retry_rules.specs.declared.Counters.{Counters}
