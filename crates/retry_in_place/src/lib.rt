@@ -1,10 +1,9 @@
 // Document 01: "Each call alters the host's one copy of the sender's counters". Each function takes the sender out from behind the reference, makes the
 // call by value, and puts the sender back; it answers what is left of the answer.
-use retry::beginning;
-use retry::buffers;
-use retry::replies;
-use retry::timer;
+use retry_replies::replies;
+use retry_replies::timer;
 use retry_rules::Sender;
+use retry_state::beginning;
 ghost use mathlib.Core.Path.{_≡_};
 ghost use lib.ListN.{length};
 ghost use Rattle.retry_rules.specs.Fresh.{resetOf};
@@ -39,27 +38,27 @@ pub struct TickAnswer {
 pub fn reply_in_place(sender: &mut Sender, nack: bool, number: u32) -> u8
     ensures { λ r. ⌜ (r ≡ replyOf (now (sender .entry)) nack number .refusal) × (now (sender .exit) ≡ replyOf (now (sender .entry)) nack number .sender) ⌝ }
 {
-    let a = replies::reply(*sender, nack, number);
-    *sender = a.sender;
-    a.refusal
+    let heard = replies::reply(*sender, nack, number);
+    *sender = heard.sender;
+    heard.refusal
 }
 
 pub fn reset_in_place(sender: &mut Sender, columns: u32, size: u32) -> u8
     ensures { λ r. ⌜ (r ≡ resetOf (now (sender .entry)) columns size .refusal) × (now (sender .exit) ≡ resetOf (now (sender .entry)) columns size .sender) ⌝ }
 {
-    let a = beginning::reset(*sender, columns, size);
-    *sender = a.sender;
-    a.refusal
+    let begun = beginning::reset(*sender, columns, size);
+    *sender = begun.sender;
+    begun.refusal
 }
 
 pub fn tick_in_place(sender: &mut Sender) -> TickAnswer
     ensures { λ r. ⌜ (r ≡ tickBeside (tickOf (now (sender .entry)))) × (now (sender .exit) ≡ tickOf (now (sender .entry)) .sender) ⌝ }
 {
-    let a = timer::tick(*sender);
-    *sender = a.sender;
+    let ticked = timer::tick(*sender);
+    *sender = ticked.sender;
     TickAnswer {
-        refusal: a.refusal,
-        fell: a.fell,
+        refusal: ticked.refusal,
+        fell: ticked.fell,
     }
 }
 
@@ -72,25 +71,25 @@ pub fn offer_in_place(
 ) -> OfferAnswer
     ensures { λ r. ⌜ (r ≡ offerBeside (offerOf (now (sender .entry)) (length (now (buffers .entry))) channel bad (length (now (bytes .entry))))) × (now (sender .exit) ≡ offerOf (now (sender .entry)) (length (now (buffers .entry))) channel bad (length (now (bytes .entry))) .sender) × (now (buffers .exit) ≡ offerBuffers (now (sender .entry)) (now (buffers .entry)) channel (now (bytes .entry))) ⌝ }
 {
-    let a = buffers::offer(*sender, buffers, channel, bad, bytes);
-    *sender = a.sender;
+    let offered = retry_buffers::offer(*sender, buffers, channel, bad, bytes);
+    *sender = offered.sender;
     OfferAnswer {
-        refusal: a.refusal,
-        number: a.number,
+        refusal: offered.refusal,
+        number: offered.number,
     }
 }
 
 pub fn send_in_place(sender: &mut Sender, buffers: &[u8], output: &mut [u8]) -> SendAnswer
     ensures { λ r. ⌜ (r ≡ sendBeside (sendOf (now (sender .entry)) (length (now (buffers .entry))) (length (now (output .entry))))) × (now (sender .exit) ≡ sendOf (now (sender .entry)) (length (now (buffers .entry))) (length (now (output .entry))) .sender) × (now (output .exit) ≡ sendOutput (now (sender .entry)) (now (buffers .entry)) (now (output .entry))) ⌝ }
 {
-    let a = buffers::send(*sender, buffers, output);
-    *sender = a.sender;
+    let sent = retry_buffers::send(*sender, buffers, output);
+    *sender = sent.sender;
     SendAnswer {
-        refusal: a.refusal,
-        sent: a.sent,
-        number: a.number,
-        channel: a.channel,
-        bad: a.bad,
-        length: a.length,
+        refusal: sent.refusal,
+        sent: sent.sent,
+        number: sent.number,
+        channel: sent.channel,
+        bad: sent.bad,
+        length: sent.length,
     }
 }

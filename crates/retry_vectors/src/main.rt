@@ -1,15 +1,13 @@
 // Runs a script of calls of both ends of the retry and prints what each answers, the state it hands back, and a sum over the lent memory. The script comes on
 // standard input; tests/retry makes it, and what this program must print, from an implementation of its own.
-use retry::beginning;
-use retry::buffers;
-use retry::receiver;
-use retry::replies;
-use retry::timer;
+use retry_replies::replies;
+use retry_replies::timer;
 use retry_rules::Arrived;
 use retry_rules::Counters;
 use retry_rules::Receiver;
 use retry_rules::Sender;
 use retry_rules::Slots;
+use retry_state::beginning;
 
 mod print;
 mod script;
@@ -17,7 +15,7 @@ mod script;
 use crate::print::line_end;
 use crate::print::mark;
 use crate::print::memory_sum;
-use crate::print::number;
+use crate::print::numbers;
 use crate::print::print_receiver;
 use crate::print::print_sender;
 use crate::print::word;
@@ -54,14 +52,14 @@ fn segment(call: &[u8], script: &[u8], bytes: u32) -> Part
 fn fresh_sender(call: &[u8]) -> Sender {
     let a = beginning::fresh_sender(field(call, 0), field(call, 1));
     word(b"fresh-sender");
-    number(a.refusal as u32);
+    numbers(&[a.refusal as u32]);
     a.sender
 }
 
 fn reset(call: &[u8], sender: Sender) -> Sender {
     let a = beginning::reset(sender, field(call, 0), field(call, 1));
     word(b"reset");
-    number(a.refusal as u32);
+    numbers(&[a.refusal as u32]);
     a.sender
 }
 
@@ -70,7 +68,7 @@ fn offer(call: &[u8], script: &[u8], sender: Sender, memory: &mut [u8]) -> Sende
     let from = part.from;
     let to = part.to;
     let lent = clamped(field(call, 2), memory.len());
-    let a = buffers::offer(
+    let a = retry_buffers::offer(
         sender,
         &mut memory[..lent],
         field(call, 0),
@@ -78,62 +76,68 @@ fn offer(call: &[u8], script: &[u8], sender: Sender, memory: &mut [u8]) -> Sende
         &script[from..to],
     );
     word(b"offer");
-    number(a.refusal as u32);
-    number(a.number as u32);
+    numbers(&[a.refusal as u32, a.number as u32]);
     a.sender
 }
 
 fn send(call: &[u8], sender: Sender, memory: &[u8], output: &mut [u8]) -> Sender {
     let room = clamped(field(call, 1), output.len());
     let lent = clamped(field(call, 2), memory.len());
-    let a = buffers::send(sender, &memory[..lent], &mut output[..room]);
+    let a = retry_buffers::send(sender, &memory[..lent], &mut output[..room]);
     word(b"send");
-    number(a.refusal as u32);
-    mark(a.sent);
-    number(a.number as u32);
-    number(a.channel as u32);
-    mark(a.bad);
-    number(a.length as u32);
+    numbers(
+        &[
+            a.refusal as u32,
+            mark(a.sent),
+            a.number as u32,
+            a.channel as u32,
+            mark(a.bad),
+            a.length as u32,
+        ],
+    );
     a.sender
 }
 
 fn reply(call: &[u8], sender: Sender) -> Sender {
     let a = replies::reply(sender, flag(call, 0), field(call, 0));
     word(b"reply");
-    number(a.refusal as u32);
+    numbers(&[a.refusal as u32]);
     a.sender
 }
 
 fn damaged_reply(sender: Sender) -> Sender {
     let a = replies::damaged_reply(sender);
     word(b"damaged-reply");
-    number(a.refusal as u32);
+    numbers(&[a.refusal as u32]);
     a.sender
 }
 
 fn tick(sender: Sender) -> Sender {
     let a = timer::tick(sender);
     word(b"tick");
-    number(a.refusal as u32);
-    mark(a.fell);
+    numbers(&[a.refusal as u32, mark(a.fell)]);
     a.sender
 }
 
 fn fresh_receiver(call: &[u8]) -> Receiver {
-    let a = receiver::fresh_receiver(field(call, 1));
+    let a = retry_receiver::fresh_receiver(field(call, 1));
     word(b"fresh-receiver");
-    number(a.refusal as u32);
+    numbers(&[a.refusal as u32]);
     a.receiver
 }
 
 fn print_arrived(a: Arrived) {
-    number(a.refusal as u32);
-    mark(a.delivered);
-    mark(a.nack);
-    number(a.number as u32);
-    number(a.channel as u32);
-    mark(a.bad);
-    number(a.length as u32);
+    numbers(
+        &[
+            a.refusal as u32,
+            mark(a.delivered),
+            mark(a.nack),
+            a.number as u32,
+            a.channel as u32,
+            mark(a.bad),
+            a.length as u32,
+        ],
+    );
 }
 
 fn arrival(call: &[u8], script: &[u8], given: Receiver, output: &mut [u8]) -> Receiver {
@@ -142,7 +146,7 @@ fn arrival(call: &[u8], script: &[u8], given: Receiver, output: &mut [u8]) -> Re
     let from = part.from;
     let to = part.to;
     let room = clamped(both / 65536, output.len());
-    let a = receiver::arrival(
+    let a = retry_receiver::arrival(
         given,
         field(call, 0),
         field(call, 1),
@@ -157,7 +161,7 @@ fn arrival(call: &[u8], script: &[u8], given: Receiver, output: &mut [u8]) -> Re
 }
 
 fn damaged_arrival(given: Receiver) -> Receiver {
-    let a = receiver::damaged_arrival(given);
+    let a = retry_receiver::damaged_arrival(given);
     word(b"damaged-arrival");
     print_arrived(a);
     a.receiver
@@ -292,7 +296,7 @@ fn step(call: &[u8], script: &[u8], world: World, memory: &mut [u8], output: &mu
 fn run(script: &[u8], memory: &mut [u8], output: &mut [u8]) {
     let begun = beginning::fresh_sender(1, 8);
     let sender = begun.sender;
-    let begun = receiver::fresh_receiver(8);
+    let begun = retry_receiver::fresh_receiver(8);
     let receiver = begun.receiver;
     let mut world = World { sender, receiver };
     let mut at: usize = 0;

@@ -48,17 +48,17 @@ slice-aggregate-word c = search needs
 word-requires : tie.Need-word-requires
 word-requires c κs = search needs
 
-cast-number : tie.Need-cast-number
-cast-number c = search needs
+cast-t11 : tie.Need-cast-t11
+cast-t11 c = search needs
 
-number-requires : tie.Need-number-requires
-number-requires c κs = search needs
+cast-t23 : tie.Need-cast-t23
+cast-t23 c = search needs
 
-cast-number-2 : tie.Need-cast-number-2
-cast-number-2 c = search needs
+slice-aggregate-numbers : tie.Need-slice-aggregate-numbers
+slice-aggregate-numbers c = search needs
 
-number-requires-2 : tie.Need-number-requires-2
-number-requires-2 c κs = search needs
+numbers-requires : tie.Need-numbers-requires
+numbers-requires c κs = search needs
 
 same-length : tie.Need-same-length
 same-length c = search needs
@@ -84,9 +84,9 @@ offer-spec =
     offer-requires
     slice-aggregate-word
     word-requires
-    cast-number
-    number-requires
-    cast-number-2
-    number-requires-2
+    cast-t11
+    cast-t23
+    slice-aggregate-numbers
+    numbers-requires
     same-length
     returns)

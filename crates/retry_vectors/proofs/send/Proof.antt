@@ -36,35 +36,29 @@ slice-aggregate-word c = search needs
 word-requires : tie.Need-word-requires
 word-requires c κs = search needs
 
-cast-number : tie.Need-cast-number
-cast-number c = search needs
-
-number-requires : tie.Need-number-requires
-number-requires c κs = search needs
+cast-t9 : tie.Need-cast-t9
+cast-t9 c = search needs
 
 mark-requires : tie.Need-mark-requires
 mark-requires c κs = search needs
 
-cast-number-2 : tie.Need-cast-number-2
-cast-number-2 c = search needs
+cast-t20 : tie.Need-cast-t20
+cast-t20 c = search needs
 
-number-requires-2 : tie.Need-number-requires-2
-number-requires-2 c κs = search needs
-
-cast-number-3 : tie.Need-cast-number-3
-cast-number-3 c = search needs
-
-number-requires-3 : tie.Need-number-requires-3
-number-requires-3 c κs = search needs
+cast-t21 : tie.Need-cast-t21
+cast-t21 c = search needs
 
 mark-requires-2 : tie.Need-mark-requires-2
 mark-requires-2 c κs = search needs
 
-cast-number-4 : tie.Need-cast-number-4
-cast-number-4 c = search needs
+cast-t23 : tie.Need-cast-t23
+cast-t23 c = search needs
 
-number-requires-4 : tie.Need-number-requires-4
-number-requires-4 c κs = search needs
+slice-aggregate-numbers : tie.Need-slice-aggregate-numbers
+slice-aggregate-numbers c = search needs
+
+numbers-requires : tie.Need-numbers-requires
+numbers-requires c κs = search needs
 
 same-length : tie.Need-same-length
 same-length c = search needs
@@ -86,15 +80,13 @@ send-spec =
     send-requires
     slice-aggregate-word
     word-requires
-    cast-number
-    number-requires
+    cast-t9
     mark-requires
-    cast-number-2
-    number-requires-2
-    cast-number-3
-    number-requires-3
+    cast-t20
+    cast-t21
     mark-requires-2
-    cast-number-4
-    number-requires-4
+    cast-t23
+    slice-aggregate-numbers
+    numbers-requires
     same-length
     returns)
