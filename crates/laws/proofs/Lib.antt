@@ -1,3 +1,6 @@
 pub mod Bools
 pub mod Table
 pub mod Scan
+pub mod Xor
+pub mod Shifts
+pub mod Check
