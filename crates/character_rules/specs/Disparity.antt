@@ -1,0 +1,19 @@
+-- Document 01: disparity is −1 or +1, a signed number.
+use mathlib.Core.Bool.{Bool, true, false, cond, _||_}
+use lib.Dec.{eqb}
+use lib.IntN.{ℤ, pos, negsuc}
+
+abbrev pub isPlus : ℤ → Bool
+isPlus (pos n) = eqb n 1
+isPlus (negsuc n) = false
+
+abbrev pub isMinus : ℤ → Bool
+isMinus (pos n) = false
+isMinus (negsuc n) = eqb n 0
+
+abbrev pub isDisparity : ℤ → Bool
+isDisparity d = isPlus d || isMinus d
+
+-- +1, or −1
+abbrev pub disparityOf : Bool → ℤ
+disparityOf plus = cond plus (pos 1) (negsuc 0)
