@@ -37,7 +37,7 @@ use Rattle.packet_rules.proofs.Fed.{priorityAfter, dataAfter, fed-prior
 
 -- ---- LMPs
 
-reply-said : (nack : Bool) (n : ℕ) → n < 16 → lmpSaid (cond nack 0x21 0x20) n ≡ replied nack n
+pub reply-said : (nack : Bool) (n : ℕ) → n < 16 → lmpSaid (cond nack 0x21 0x20) n ≡ replied nack n
 reply-said true n h =
     let m : n % 16 ≡ n = omega arith in
     simp (eq-eqb (n / 16) 0 (omega arith), m)
@@ -45,7 +45,7 @@ reply-said false n h =
     let m : n % 16 ≡ n = omega arith in
     simp (eq-eqb (n / 16) 0 (omega arith), m)
 
-other-said : (t n : ℕ) → isReply t n ≡ false → lmpSaid t n ≡ nothing
+pub other-said : (t n : ℕ) → isReply t n ≡ false → lmpSaid t n ≡ nothing
 other-said t n h = by (eqb (t / 16) 2 && (ltb (t % 16) 2 && eqb (n / 16) 0)) refl
   where
     -- the two conditions are one

@@ -27,7 +27,7 @@ use Rattle.packet_rules.specs.declared.Reader.{Reader}
 use Rattle.packet_rules.specs.Answers.{Said, Answer, nothing, ended, replied, violated, refused}
 use Rattle.packet_rules.specs.State.{wellFormed}
 use Rattle.packet_rules.specs.Violations.{tenConditions, violationOf}
-use Rattle.packet_rules.specs.Step.{answer, userByte, freeMove, closesOwn, lmpSaid, dueMove, byteOf, move, broken, awakens, dropped, isDropping, judged, kindIn, symbolIn, readOf, stepChecks, refusedStep, stepOf}
+use Rattle.packet_rules.specs.Step.{answer, userByte, freeMove, closesOwn, lmpSaid, dueMove, byteOf, move, broken, awakens, dropped, isDropping, judged, kindIn, symbolIn, isResult, readOf, stepChecks, refusedStep, stepOf}
 use Rattle.packet_rules.proofs.Lowest.{NoneOf, FirstAt, lowest-none, none-lowest, first-lowest}
 use Rattle.packet_rules.proofs.Choice.{either, by-outcome}
 
@@ -36,12 +36,12 @@ use Rattle.packet_rules.proofs.Choice.{either, by-outcome}
 -- the state keeps its rule, and the result is one: a character was read, and its symbol is one of the reader's
 pub record Taken (r : Reader) (g : Reading) : Type 0 where
   pub rule : wellFormed r ≡ true
-  pub read : g .refusal ≡ 0
+  pub read : isResult (g .disparity) ≡ true
   pub symbol : symbolIn (g .symbol) ≡ true
 
 pub taken : (r : Reader) (g : Reading) → Taken r g → stepOf r g ≡ readOf r g (kindIn (g .symbol))
 unfolding stepOf
-taken r g t = simp (t .rule, eq-eqb (g .refusal) 0 (t .read), t .symbol)
+taken r g t = simp (t .rule, t .read, t .symbol)
 
 -- ---- each violation by its own condition, the lowest that fits
 

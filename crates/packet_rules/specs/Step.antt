@@ -4,6 +4,7 @@ use mathlib.Core.Bool.{Bool, true, false, cond, not, _&&_, _||_}
 use mathlib.Core.List.{List, [], _∷_}
 use mathlib.Core.Option.{Option, none, some}
 use lib.Dec.{eqb, ltb, leb}
+use lib.IntN.{ℤ}
 use Rattle.refusal.specs.Order.{Check, check, outcome}
 use Rattle.symbol.specs.Symbols.{isSymbol}
 use Rattle.symbol.specs.declared.Symbol.{Symbol}
@@ -141,9 +142,14 @@ abbrev pub symbolIn : Option Symbol → Bool
 symbolIn none = true
 symbolIn (some s) = isSymbol s
 
+-- every character result has a new disparity; a character that was refused has none
+abbrev pub isResult : Option ℤ → Bool
+isResult none = false
+isResult (some d) = true
+
 -- refusal 1: a state that breaks its rule; what is no character result; a control symbol that is none of the twelve
 abbrev pub stepChecks : Reader → Reading → List Check
-stepChecks r g = check 1 (not (wellFormed r)) ∷ check 1 (not (eqb (g .refusal) 0)) ∷ check 1 (not (symbolIn (g .symbol))) ∷ []
+stepChecks r g = check 1 (not (wellFormed r)) ∷ check 1 (not (isResult (g .disparity))) ∷ check 1 (not (symbolIn (g .symbol))) ∷ []
 
 abbrev pub refusedStep : Reader → ℕ → Answer
 refusedStep r n = record { said = refused n; reader = r }
