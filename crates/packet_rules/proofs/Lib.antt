@@ -8,3 +8,4 @@ pub mod Steps
 pub mod Fed
 pub mod Legal
 pub mod Register
+pub mod Rows
