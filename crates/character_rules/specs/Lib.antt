@@ -6,3 +6,5 @@ pub mod Reading
 pub mod Results
 pub mod Line
 pub mod Demand
+pub mod Bench
+pub mod Samples

@@ -1,7 +1,7 @@
 -- What a test made of two says of each.
 -- Assumes nothing.
 use mathlib.Core.Path.{_≡_, refl, sym, subst}
-use mathlib.Core.Bool.{Bool, true, false, not, _&&_, _||_}
+use mathlib.Core.Bool.{Bool, true, false, cond, not, _&&_, _||_}
 use mathlib.Core.List.{List, [], _∷_}
 use Prim.Native.Nat.{ℕ}
 use lib.Dec.{T}
@@ -30,3 +30,13 @@ true-T b e = subst T (sym e) tt
 pub T-true : (b : Bool) → T b → b ≡ true
 T-true true t = refl
 T-true false t = absurd t
+
+-- a test whether two are the same
+abbrev pub agree : Bool → Bool → Bool
+agree a b = cond a b (not b)
+
+pub agree-eq : (a b : Bool) → T (agree a b) → a ≡ b
+agree-eq true true t = refl
+agree-eq true false t = absurd t
+agree-eq false true t = absurd t
+agree-eq false false t = refl

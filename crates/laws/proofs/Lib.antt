@@ -4,3 +4,5 @@ pub mod Scan
 pub mod Xor
 pub mod Shifts
 pub mod Check
+pub mod Cases
+pub mod Listed

@@ -1,26 +1,18 @@
 -- The twelve by five tests: the remainder by 32, and four bytes.
 -- Assumes nothing.
 use mathlib.Core.Path.{_≡_, refl, sym, _∙_}
-use mathlib.Core.Bool.{Bool, true, false, cond, not, _||_}
+use mathlib.Core.Bool.{Bool, _||_}
 use Prim.Native.Nat.{ℕ, _%_, _<_}
 use lib.Dec.{T, eqb}
 use lib.ListN.{length}
 use borrow.Author.Tests.{eq-eqb, ne-eqb}
 use Rattle.laws.specs.Lists.{countFrom}
+use Rattle.laws.proofs.Bools.{agree, agree-eq}
 use Rattle.laws.proofs.Table.{at}
 use Rattle.symbol.specs.Symbols.{isTwelve}
 
 abbrev fiveTests : ℕ → Bool
 fiveTests b = eqb (b % 32) 28 || (eqb b 0xF7 || (eqb b 0xFB || (eqb b 0xFD || eqb b 0xFE)))
-
-abbrev agree : Bool → Bool → Bool
-agree p q = cond p q (not q)
-
-agree-eq : (p q : Bool) → T (agree p q) → p ≡ q
-agree-eq true true t = refl
-agree-eq true false t = absurd t
-agree-eq false true t = absurd t
-agree-eq false false t = refl
 
 test : ℕ → ℕ → Bool
 test b x = agree (fiveTests b) (isTwelve b)

@@ -1,0 +1,13 @@
+pub mod BenchRows
+pub mod BenchSamples
+pub mod Disparities
+pub mod Laws
+pub mod Found
+pub mod Trip
+pub mod Steps
+pub mod LineBalance
+pub mod Demand
+pub mod Wrong
+pub mod Told
+pub mod Packed
+pub mod RunLaws

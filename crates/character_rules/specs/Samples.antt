@@ -1,0 +1,27 @@
+-- Worked examples beyond the bench's: refusals, readings of each kind, and a run.
+use mathlib.Core.Path.{_≡_}
+use mathlib.Core.List.{List, [], _∷_}
+use Prim.Native.Nat.{ℕ, _+_, _*_}
+use lib.IntN.{ℤ, pos, negsuc}
+use Rattle.character_rules.specs.Answers.{notWritten, clean, wrongDisparity, invalid, notRead, runRead}
+use Rattle.character_rules.specs.Writing.{writing}
+use Rattle.character_rules.specs.Reading.{reading}
+use Rattle.character_rules.specs.Results.{runReading, runOutput}
+use Rattle.character_rules.specs.Bench.{D, K}
+
+pub record Samples : Type 0 where
+  -- K28.7 is not writable; at a number that is no disparity refusal 1 comes first
+  pub not-writable : writing (K 28 7) (negsuc 0) ≡ notWritten 3
+  pub no-disparity : writing (K 28 7) (pos 0) ≡ notWritten 1
+  -- 1,024 is no character, 2 no disparity
+  pub no-character : reading 1024 (pos 1) ≡ notRead 1
+  pub not-at-two : reading 0 (pos 2) ≡ notRead 1
+  -- K28.7 reads clean where clause 36 has it, with wrong disparity at the other; 0 is no code group
+  pub k28-7 : reading 0b0011111000 (negsuc 0) ≡ clean (K 28 7) (negsuc 0)
+  pub k28-7-at-plus : reading 0b0011111000 (pos 1) ≡ wrongDisparity (K 28 7) (negsuc 0)
+  pub nothing : reading 0 (pos 1) ≡ invalid (pos 1)
+  -- K28.5 closes at +1, where its other column is legal: twice clean from −1, into an output that is longer by one
+  pub run-closing : runReading (0b0011111010 ∷ 0b1100000101 ∷ []) (negsuc 0) 3 ≡ runRead (negsuc 0)
+  pub run-output :
+      runOutput (0b0011111010 ∷ 0b1100000101 ∷ []) (negsuc 0) (7 ∷ 8 ∷ 9 ∷ [])
+      ≡ (0xBC + 256 + 2048) ∷ (0xBC + 256) ∷ 9 ∷ []

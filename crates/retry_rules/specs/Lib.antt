@@ -1,0 +1,15 @@
+pub mod Numbers
+pub mod States
+pub mod Refused
+pub mod Fresh
+pub mod Lent
+pub mod Offer
+pub mod Send
+pub mod Reply
+pub mod Tick
+pub mod Arrival
+pub mod Bench
+pub mod Calls
+pub mod Ledger
+pub mod History
+pub mod Runs
