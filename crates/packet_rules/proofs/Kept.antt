@@ -8,6 +8,7 @@ use Prim.Native.Nat.{ℕ, zero, suc, _+_, _-_, _≤_, _<_}
 use native.Mathlib.Omega.{arith}
 use borrow.Author.Tests.{lt-ltb, le-leb, leb-true, leb-false, eq-eqb, eqb-true, not-false}
 use lib.Dec.{leb, ltb, eqb}
+use Rattle.laws.proofs.Cases.{first-true, second-true}
 use Rattle.character_rules.specs.Answers.{Reading}
 use Rattle.crc.specs.Crc16.{crcStart, crcByte}
 use Rattle.packet_rules.specs.declared.Opener.{Opener}
@@ -27,7 +28,7 @@ use Rattle.packet_rules.specs.Answers.{Said, Answer, nothing, violated, 
 use Rattle.packet_rules.specs.State.{noPriority, outside, hasByte, isSegmentSize, dataRule, priorityRule, dueRule, phaseRule, wellFormed, fresh}
 use Rattle.packet_rules.specs.Violations.{mayNotStand, isFull, conditions, violationOf}
 use Rattle.packet_rules.specs.Step.{answer, dueAfter, userByte, freeMove, closesOwn, dueMove, byteOf, idlesAfter, move, broken, awakens, dropped, judged, kindIn, readOf, stepChecks, refusedStep, stepOf}
-use Rattle.packet_rules.proofs.Choice.{either, by-outcome, and-left, and-right}
+use Rattle.packet_rules.proofs.Choice.{either, by-outcome}
 use Rattle.packet_rules.proofs.Lowest.{NoneOf, lowest-none}
 
 abbrev st : ℕ → DataPacket → PriorityPacket → Phase → Reader
@@ -76,7 +77,7 @@ module _ (s : ℕ) (ok : isSegmentSize s ≡ true) where
     idles : (n : ℕ) → phaseRule d p (Idles n) ≡ true → phaseRule d p (idlesAfter n) ≡ true
     idles n h =
         either (λ (w : Phase). phaseRule d p w ≡ true) (leb n 1) Free (Idles (n - 1)) (λ e. refl)
-        (λ e. simp (lt-ltb 0 (n - 1) (omega (arith, leb-false n 1 e)), le-leb (n - 1) 3 (omega (arith, leb-true n 3 (and-right (ltb 0 n) (leb n 3) h)))))
+        (λ e. simp (lt-ltb 0 (n - 1) (omega (arith, leb-false n 1 e)), le-leb (n - 1) 3 (omega (arith, leb-true n 3 (second-true (ltb 0 n) (leb n 3) h)))))
 
   user : (d : DataPacket) (p : PriorityPacket) (b : ℕ) (w : Phase) → dataRule d ≡ true → priorityRule s p ≡ true → isFull s p ≡ false
       → Keeps (userByte d p b (st s d p w))
@@ -149,12 +150,12 @@ kept r g h =
     let d = dataRule (r .packet) in
     let p = priorityRule (r .size) (r .priority) in
     let w = phaseRule (r .packet) (r .priority) (r .phase) in
-    let dpw = and-right s (d && (p && w)) h in
-    let pw = and-right d (p && w) dpw in
+    let dpw = second-true s (d && (p && w)) h in
+    let pw = second-true d (p && w) dpw in
     let k = kindIn (g .symbol) in
     by-outcome Keeps (stepChecks r g) (refusedStep r) (readOf r g k) (λ n. h)
-    (reads (r .size) (and-left s (d && (p && w)) h) (r .packet) (r .priority) (and-left d (p && w) dpw) (and-left p w pw) (r .phase) g k
-    (and-right p w pw))
+    (reads (r .size) (first-true s (d && (p && w)) h) (r .packet) (r .priority) (first-true d (p && w) dpw) (first-true p w pw) (r .phase) g k
+    (second-true p w pw))
 
 pub fresh-kept : (s : ℕ) → isSegmentSize s ≡ true → wellFormed (fresh s) ≡ true
 fresh-kept s ok = keep s ok NoData NoPriority Free refl refl refl

@@ -13,6 +13,7 @@ use lib.IntN.{ℤ, pos}
 use lib.ListN.{length, getD}
 use Rattle.symbol.specs.Symbols.{dataSymbol, controlSymbol}
 use Rattle.symbol.specs.declared.Symbol.{Symbol}
+use Rattle.laws.proofs.Cases.{first-true, second-true}
 use Rattle.character_rules.specs.Answers.{Reading, clean}
 use Rattle.crc.specs.Crc16.{crcStart, crcFrom, checkBytesOf, crcOf}
 use Rattle.crc.proofs.Laws.{start-value, check-bytes}
@@ -29,7 +30,6 @@ use Rattle.packet_rules.specs.Answers.{Said, Answer, nothing, started, g
 use Rattle.packet_rules.specs.State.{noPriority, outside, hasByte, openingByte, registerIn, fedPriority, fedData, isSegmentSize, wellFormed, fresh}
 use Rattle.packet_rules.specs.Step.{closesOwn, lmpSaid, stepOf}
 use Rattle.packet_rules.specs.Line.{COM, IDL, SPP, SDP, SLP, endSymbol, isReply, Fill, idl, comIdles, reply, other, Inside, end, byte, among, closing, closingSaid, PriorityLine, priority, Within, fill, nested, DataLine, packet, Outside, zeros, within, data-packet, LegalLine, empty, then, saidOf, afterOf, ReadClean}
-use Rattle.packet_rules.proofs.Choice.{and-left, and-right}
 use Rattle.packet_rules.proofs.Kept.{fresh-kept}
 use Rattle.packet_rules.proofs.Runs.{gives, Runs, stop, step, runs-append, runs-kept, go, runs-said}
 use Rattle.packet_rules.proofs.Steps.{st, on-idl, on-com, on-idles, on-last-idle, on-slp, on-spp, on-sdp, on-byte, on-end, on-channel, on-opening, on-closing, on-first, on-second, on-lmp-type, on-lmp-number, on-lmp-check, on-zero}
@@ -51,10 +51,10 @@ other-said t n h = by (eqb (t / 16) 2 && (ltb (t % 16) 2 && eqb (n / 16) 0)) ref
     -- the two conditions are one
     same : (eqb (t / 16) 2 && (ltb (t % 16) 2 && eqb (n / 16) 0)) ≡ true → (b : Bool) → eqb t 0x20 ≡ b → isReply t n ≡ true
     same e b q =
-        let a = eqb-true (t / 16) 2 (and-left (eqb (t / 16) 2) _ e) in
-        let f = and-right (eqb (t / 16) 2) (ltb (t % 16) 2 && eqb (n / 16) 0) e in
-        let x = ltb-true (t % 16) 2 (and-left (ltb (t % 16) 2) (eqb (n / 16) 0) f) in
-        let y = eqb-true (n / 16) 0 (and-right (ltb (t % 16) 2) (eqb (n / 16) 0) f) in
+        let a = eqb-true (t / 16) 2 (first-true (eqb (t / 16) 2) _ e) in
+        let f = second-true (eqb (t / 16) 2) (ltb (t % 16) 2 && eqb (n / 16) 0) e in
+        let x = ltb-true (t % 16) 2 (first-true (ltb (t % 16) 2) (eqb (n / 16) 0) f) in
+        let y = eqb-true (n / 16) 0 (second-true (ltb (t % 16) 2) (eqb (n / 16) 0) f) in
         two b q a x (lt-ltb n 16 (omega arith))
       where
         two : (b : Bool) → eqb t 0x20 ≡ b → t / 16 ≡ 2 → t % 16 < 2 → ltb n 16 ≡ true → isReply t n ≡ true

@@ -10,12 +10,8 @@ use Rattle.packet_rules.specs.declared.Reader.{Reader}
 use Rattle.packet_rules.specs.declared.Step.{Step}
 use Rattle.packet_rules.specs.declared.FreshReader.{FreshReader}
 use Rattle.packet_rules.specs.declared.FreshReader.the-variants.{Ready, Refused as NotMade}
+use Rattle.packet_rules.specs.History.{given}
 use Rattle.packet_rules.specs.Answers.{Said, Start, Reply, Answer, Made, eventSays, stepSays, freshSays}
-
--- what is there, or else another
-abbrev given : {A B : Type 0} → Option A → (A → B) → B → B
-given none f b = b
-given (some a) f b = f a
 
 abbrev theStart : Start → Event
 theStart s = given (s .segment) (StartPriority (s .channel)) (StartData (s .channel))

@@ -5,3 +5,5 @@ pub mod Violations
 pub mod Step
 pub mod Line
 pub mod History
+pub mod Packets
+pub mod RoundTrip
