@@ -188,7 +188,7 @@ module _ (s : ℕ) where
       (λ e. on-channel s NoData NoPriority e c ok1)
       (λ ok2. bodies (Within s) true withins i (InData c false crcStart) NoPriority bad refl refl refl one tt ok2))
 
-  outsides : Ok NoData NoPriority Free → (fs : List Symbol) (gs : List Said) → Outside s fs gs → Runs (fresh s) fs gs (fresh s)
+  pub outsides : Ok NoData NoPriority Free → (fs : List Symbol) (gs : List Said) → Outside s fs gs → Runs (fresh s) fs gs (fresh s)
   outsides ok fs gs zeros = step (dataSymbol 0) nothing (λ e. on-zero s e ok) (stop (fresh s))
   outsides ok fs gs (within w) = withins NoData NoPriority refl ok fs gs w
   outsides ok fs gs (data-packet l) = packets ok fs gs l

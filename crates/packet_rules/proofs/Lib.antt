@@ -9,3 +9,8 @@ pub mod Fed
 pub mod Legal
 pub mod Register
 pub mod Rows
+pub mod Read
+pub mod Packets
+pub mod Trip
+pub mod Sequences
+pub mod Wrong

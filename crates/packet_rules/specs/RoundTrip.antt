@@ -69,3 +69,15 @@ pub record PacketRoundTrip (reader : PacketReader) (writer : PacketWriter) : Typ
   pub written : (s : ℕ) (p : Packet) (d : ℤ) (out : List ℕ) → isSegmentSize s ≡ true → Allowed s p → T (isDisparity d) → length (symbolsOf p) ≤ length out
       → (e : ℤ) × (T (isDisparity e)) × (writer .answers s p d out ≡ wrote (length (symbolsOf p)) e)
       × ReadBack reader s p d e (take (length (symbolsOf p)) (writer .leaves s p d out))
+
+-- ---- packets one after another: each written from the disparity that the one before it closed at, into an output of its own, the characters joined
+
+pub data Sequence (writer : PacketWriter) (s : ℕ) : List Packet → ℤ → List ℕ → ℤ → Type 0 where
+  last : (d : ℤ) → Sequence writer s [] d [] d
+  first : (p : Packet) (out : List ℕ) (d e : ℤ) {ps : List Packet} {cs : List ℕ} {f : ℤ} → Allowed s p → length (symbolsOf p) ≤ length out
+      → writer .answers s p d out ≡ wrote (length (symbolsOf p)) e → Sequence writer s ps e cs f
+      → Sequence writer s (p ∷ ps) d (take (length (symbolsOf p)) (writer .leaves s p d out) ++ cs) f
+
+abbrev pub saidForAll : List Packet → List Said
+saidForAll [] = []
+saidForAll (p ∷ ps) = saidFor p ++ saidForAll ps
