@@ -12,11 +12,15 @@ HEAD = re.compile(r'^[ \t]*pub (?:extern "C" )?fn (\w+)(.*?)\n[ \t]*\{\n', re.M 
 
 
 def functions(crate):
-    """(file, name, what stands between the name and the body) of each public function"""
+    """(file, name, what stands between the name and the body) of each function that another crate can call"""
+    root = (crate / "src" / "lib.rt").read_text(encoding="utf-8")
+    private = set(re.findall(r"^mod (\w+);", root, re.M))
+    passed_on = set(re.findall(r"^pub use (?:\w+::)*(\w+);", root, re.M))
     for source in sorted((crate / "src").rglob("*.rt")):
         text = re.sub(r"//[^\n]*", "", source.read_text(encoding="utf-8"))
         for name, rest in HEAD.findall(text):
-            yield source.relative_to(ROOT), name, rest
+            if source.stem not in private or name in passed_on:
+                yield source.relative_to(ROOT), name, rest
 
 
 def main():
