@@ -158,18 +158,30 @@ fn unsent(sender: Sender, refusal: u8) -> Sent
     }
 }
 
-// The send point moves on; a segment sent for the first time waits no longer.
+fn larger(a: u8, b: u8) -> u8
+    ensures { λ r. ⌜ r ≡ max a b ⌝ }
+{
+    if a < b { b } else { a }
+}
+
+// The send point moves on; a segment sent for the first time waits no longer. The timer goes on as it was.
 fn one_sent(c: Counters) -> Counters
     requires { ⌜ c .point < 8 ⌝ }
     ensures { λ r. ⌜ r ≡ oneSent c ⌝ }
 {
-    let mut d = c;
     let point = c.point + 1;
-    d.point = point;
-    if c.outstanding < point {
-        d.outstanding = point;
+    Counters {
+        oldest: c.oldest,
+        stored: c.stored,
+        outstanding: larger(c.outstanding, point),
+        point,
+        released: c.released,
+        timer: c.timer,
+        expiries: c.expiries,
+        columns: c.columns,
+        size: c.size,
+        link: c.link,
     }
-    d
 }
 
 // The segment at the send point goes out.
