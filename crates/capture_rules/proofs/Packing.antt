@@ -1,7 +1,7 @@
 -- Packing and unpacking, from the definition in bits: what is packed, that nothing else is, and that each undoes the other.
 -- Assumes nothing.
 use mathlib.Core.Path.{_≡_, refl, sym, ap, ap₂, _∙_, subst}
-use mathlib.Core.Bool.{Bool, true, false, not, _&&_}
+use mathlib.Core.Bool.{Bool, not, _&&_}
 use mathlib.Core.List.{List, [], _++_, append-nil}
 use Prim.Native.Nat.{ℕ, zero, suc, _+_, _-_, _*_, _/_, _%_, _≤_, _<_}
 use borrow.Author.Tests.{leb-true, leb-false}
@@ -10,6 +10,7 @@ use lib.Dec.{T, eqb, eqb→eq, ltb, leb, leb→le, le→leb, T-not, not-T}
 use lib.ListN.{length, drop, replicate, length-append, length-drop, length-replicate, take-append-drop}
 use lib.Seq.{take-all, drop-at}
 use Rattle.laws.specs.Groups.{allBelow, allZero, bitsOf, numbers}
+use Rattle.laws.proofs.Cases.{by-test}
 use Rattle.laws.proofs.Bools.{and-left, and-right, and-both}
 use Rattle.laws.proofs.Groups.{all-append, all-replicate, length-bitsOf, bitsOf-below, length-numbers, bitsOf-numbers, numbers-bitsOf, numbers-below}
 use Rattle.laws.proofs.Zeros.{zeros-line}
@@ -48,11 +49,9 @@ pack-packed cs = record { closing = 8 * byteCount (length cs) - 10 * length cs; 
 never-one : (l n c : ℕ) → 8 * l ≡ 10 * n + c → c < 8 → l % 5 ≡ 1 → ⊥
 never-one l n c e h r =
     let q : l ≡ 5 * (l / 5) + 1 = omega arith in
-    go q (leb n (4 * (l / 5))) refl
-  where
-    go : l ≡ 5 * (l / 5) + 1 → (b : Bool) → leb n (4 * (l / 5)) ≡ b → ⊥
-    go q true t = let k = leb-true n (4 * (l / 5)) t in omega arith
-    go q false t = let k = leb-false n (4 * (l / 5)) t in omega arith
+    by-test (leb n (4 * (l / 5)))
+    (λ t. let k = leb-true n (4 * (l / 5)) t in omega arith)
+    (λ f. let k = leb-false n (4 * (l / 5)) f in omega arith)
 
 -- any other number of bytes leaves fewer than eight bits over
 fewer-over : (l : ℕ) → (l % 5 ≡ 1 → ⊥) → 8 * l - 10 * characterCount l < 8

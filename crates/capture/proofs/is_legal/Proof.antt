@@ -3,8 +3,7 @@
 use borrow.Author.Needs.{needs}
 use native.Mathlib.Omega.{arith}
 use lib.Dec.{eqb}
-use lib.ListN.{length}
-use Prim.Native.Nat.{ℕ, _*_, _%_}
+use Prim.Native.Nat.{ℕ, _%_}
 use Rattle.capture.proofs.Facts.{one-up, one-up-pos}
 use Rattle.capture_rules.proofs.Legal.{legal-long, legal-one, legal-empty, legal-last}
 use mathlib.Core.Path.{sym, ap₂, _∙_}
