@@ -152,7 +152,7 @@ taken-one n [] h = absurd (omega arith)
 taken-one n (x ∷ xs) h = omega arith
 
 module _ (capture : List ℕ) (ok : legal capture ≡ true) where
-  nexts-range : (place : ℕ) → T (allOf inRange (nextCharacters capture place))
+  pub nexts-range : (place : ℕ) → T (allOf inRange (nextCharacters capture place))
   nexts-range place = all-take inRange 64 (drop place (charactersOf capture)) (all-drop inRange place (charactersOf capture) (characters-below capture))
 
   -- the last line

@@ -1,7 +1,7 @@
 -- A listing handed out in pieces: the header, then the lines of at most 64 characters a call, then the last line. A piece goes into a lent output
 -- of 2,048 bytes, where 64 lines fit.
 use Prim.Native.Nat.{ℕ, _+_}
-use mathlib.Core.Bool.{Bool, cond, not, _&&_}
+use mathlib.Core.Bool.{Bool, cond, not, _&&_, _||_}
 use mathlib.Core.List.{List, [], _∷_, _++_}
 use mathlib.Core.Option.{Option, none, some}
 use lib.Dec.{ltb, leb}
@@ -92,7 +92,7 @@ listingAfter capture Ended = Ended
 unfoldable pub nextChecks : List ℕ → Listing → List Check
 nextChecks capture Fresh = []
 nextChecks capture (Going p) =
-    readable capture ∷ check 1 (not (keepsRule p)) ∷ check 1 (not (leb (p .place) (characterCount (length capture)))) ∷ []
+    readable capture ∷ check 1 (not (keepsRule p) || not (leb (p .place) (characterCount (length capture)))) ∷ []
 nextChecks capture Ended = []
 
 abbrev pub doneSays : List ℕ → Listing → Said
