@@ -23,21 +23,21 @@ use Rattle.listing_rules.specs.declared.Piece.the-variants.{Written, Not
 use Rattle.listing_rules.specs.declared.Next.{Next}
 use Rattle.listing_rules.specs.Lines.{readingsOf, linesFrom, eventsIn, header, endLine, refusedLine}
 
--- ---- what an answer says: the refusal's number (0: not refused), how many bytes were written (none: all is listed), the listing after it
+-- ---- what an answer says: the refusal's number, if it was refused; how many bytes were written, where a piece was; the listing after it
 
 pub record Said : Type 0 where
-  pub refusal : ℕ
+  pub refusal : Option ℕ
   pub length : Option ℕ
   pub listing : Listing
 
 abbrev pub wrote : ℕ → Listing → Said
-wrote n l = record { refusal = 0; length = some n; listing = l }
+wrote n l = record { refusal = none; length = some n; listing = l }
 
 abbrev pub wroteNothing : Listing → Said
-wroteNothing l = record { refusal = 0; length = none; listing = l }
+wroteNothing l = record { refusal = none; length = none; listing = l }
 
 abbrev pub refused : Listing → ℕ → Said
-refused l n = record { refusal = n; length = none; listing = l }
+refused l n = record { refusal = some n; length = none; listing = l }
 
 abbrev pub pieceSays : Piece → Listing → Said
 pieceSays (Written n) l = wrote n l

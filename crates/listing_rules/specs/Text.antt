@@ -5,7 +5,7 @@ use mathlib.Core.List.{List, [], _∷_, _++_}
 use lib.Dec.{ltb}
 use lib.ListN.{drop}
 
--- ---- numbers of at most five digits, as a capture needs: it has at most 52,428 characters
+-- ---- numbers of at most five digits, as a capture needs: it has at most 52,428 characters. proofs/Decimals.antt says that they are decimal
 
 abbrev pub digit : ℕ → ℕ
 digit n = 48 + n % 10
