@@ -1,14 +1,14 @@
 -- A block of characters that was taken, read and listed is the next piece.
 -- Assumes nothing.
 use mathlib.Core.Path.{_≡_, refl, sym, ap, ap₂, _∙_, subst}
-use mathlib.Core.Bool.{Bool, true, false, cond, _&&_}
+use mathlib.Core.Bool.{true, false}
 use mathlib.Core.List.{List, [], _∷_, _++_, map}
 use mathlib.Core.Option.{Option, none, some}
 use Prim.Native.Nat.{ℕ, zero, suc, _+_, _-_, _≤_, _<_}
 use native.Mathlib.Omega.{arith}
 use lib.Dec.{T, ltb, ltb→lt}
 use lib.IntN.{ℤ}
-use lib.ListN.{length, take, drop, length-append, length-drop}
+use lib.ListN.{length, take, drop, length-drop}
 use lib.Seq.{take-at, take-all, length-take-le}
 use borrow.Author.Tests.{lt-ltb, le-ltb, ltb-true, ltb-false}
 use Rattle.laws.specs.Lists.{allOf}
@@ -18,19 +18,16 @@ use Rattle.character_rules.specs.Disparity.{isDisparity}
 use Rattle.character_rules.specs.declared.RunRead.{RunRead}
 use Rattle.character_rules.specs.declared.RunRead.the-variants.{Read, Refused as NotRun}
 use Rattle.character_rules.specs.Answers.{Reading, RunReading, runRead, runSays}
-use Rattle.character_rules.specs.Reading.{reading}
 use Rattle.character_rules.specs.Results.{packed, unpacked, afterOne, inRange, runResults, runClosing, runReading, runOutput}
 use Rattle.character_rules.proofs.Packed.{unpacked-reading, after-disparity}
 use Rattle.character_rules.proofs.RunLaws.{run-done}
 use Rattle.capture_rules.specs.Capture.{characterCount, charactersOf, legal}
-use Rattle.capture_rules.proofs.Packing.{characters-length, characters-below}
+use Rattle.capture_rules.proofs.Packing.{characters-length}
 use Rattle.packet_rules.specs.Line.{saidOf, afterOf}
-use Rattle.packet_rules.specs.declared.Reader.{Reader}
 use Rattle.listing_rules.specs.declared.Reached.{Reached}
-use Rattle.listing_rules.specs.declared.Listing.{Listing}
 use Rattle.listing_rules.specs.declared.Listing.the-variants.{Going, Ended}
 use Rattle.listing_rules.specs.Lines.{readingsOf, linesFrom, eventsIn, endLine}
-use Rattle.listing_rules.specs.Pieces.{Said, wrote, keepsRule, nextCharacters, saidOfRun, afterRun, isGoing, pieceOf, listingAfter, doneSays}
+use Rattle.listing_rules.specs.Pieces.{wrote, keepsRule, nextCharacters, saidOfRun, afterRun, isGoing, pieceOf, listingAfter, doneSays}
 use Rattle.listing_rules.proofs.Whole.{rule-disparity, nexts-range}
 use Rattle.listing.specs.declared.Progress.{Progress}
 use Rattle.listing.specs.Writing.{Wrote, Listed, blockLength}

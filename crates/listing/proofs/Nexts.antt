@@ -1,8 +1,8 @@
 -- The next piece by its cases: a fresh listing, each refusal, and a listing that goes on.
 -- Assumes nothing.
 use mathlib.Core.Path.{_≡_, refl, sym, ap, ap₂, _∙_, subst}
-use mathlib.Core.Bool.{Bool, true, false}
-use mathlib.Core.List.{List, [], _∷_, _++_}
+use mathlib.Core.Bool.{true, false}
+use mathlib.Core.List.{List, _++_}
 use mathlib.Core.Option.{Option, none, some}
 use Prim.Native.Nat.{ℕ, _≤_, _<_}
 use native.Mathlib.Omega.{arith}
@@ -21,7 +21,7 @@ use Rattle.listing_rules.specs.declared.Listing.the-variants.{Fresh, Going, End
 use Rattle.listing_rules.specs.declared.Piece.the-variants.{Refused}
 use Rattle.listing_rules.specs.declared.Next.{Next}
 use Rattle.listing_rules.specs.Lines.{header, refusedLine}
-use Rattle.listing_rules.specs.Pieces.{Said, says, wrote, wroteNothing, refused, keepsRule, start, pieceOf, listingAfter, nextChecks, doneSays, nextSays, nextLeaves}
+use Rattle.listing_rules.specs.Pieces.{Said, says, wrote, wroteNothing, refused, keepsRule, pieceOf, listingAfter, nextChecks, doneSays, nextSays, nextLeaves}
 use Rattle.listing_rules.proofs.Whole.{not-refused, leaves-piece, going-free}
 use Rattle.listing.specs.Writing.{Wrote}
 use Rattle.listing.proofs.Written.{wrote-whole}

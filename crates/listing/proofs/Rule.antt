@@ -1,19 +1,17 @@
 -- The rule of a listing that goes on, test by test. A step with an invalid character is refused exactly if the reader breaks its own.
 -- Assumes nothing.
 use mathlib.Core.Path.{_≡_, refl, sym, ap, _∙_}
-use mathlib.Core.Bool.{Bool, true, false, not, _&&_}
+use mathlib.Core.Bool.{Bool, true, false, _&&_}
 use mathlib.Core.Option.{Option, none, some}
 use Prim.Native.Nat.{ℕ, _<_, _≤_}
-use lib.Dec.{leb}
 use lib.IntN.{ℤ}
 use borrow.Author.Tests.{lt-leb, le-leb}
 use Rattle.character_rules.specs.Disparity.{isDisparity}
 use Rattle.laws.proofs.Cases.{by-cases, by-test}
 use Rattle.character_rules.specs.Answers.{invalid}
 use Rattle.packet_rules.specs.declared.Reader.{Reader}
-use Rattle.packet_rules.specs.declared.Event.{Event}
 use Rattle.packet_rules.specs.declared.Step.{Step}
-use Rattle.packet_rules.specs.Answers.{Answer, Said, eventSays, stepSays}
+use Rattle.packet_rules.specs.Answers.{Answer, eventSays, stepSays}
 use Rattle.packet_rules.specs.State.{wellFormed}
 use Rattle.packet_rules.specs.Violations.{violationOf}
 use Rattle.listing_rules.specs.declared.Reached.{Reached}

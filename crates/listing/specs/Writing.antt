@@ -6,7 +6,6 @@ use mathlib.Core.List.{List, _++_, map}
 use lib.Dec.{ltb}
 use lib.ListN.{length, take, drop}
 use Rattle.character_rules.specs.Results.{unpacked}
-use Rattle.packet_rules.specs.declared.Reader.{Reader}
 use Rattle.packet_rules.specs.Line.{saidOf, afterOf}
 use Rattle.listing_rules.specs.Lines.{linesFrom, eventsIn}
 use Rattle.listing.specs.declared.Progress.{Progress}

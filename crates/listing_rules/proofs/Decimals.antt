@@ -9,7 +9,7 @@ use lib.Dec.{ltb}
 use lib.ListN.{getD, drop}
 use borrow.Author.Tests.{ltb-true, ltb-false}
 use Rattle.laws.proofs.Cases.{by-cases}
-use Rattle.listing_rules.specs.Text.{fiveDigits, leadingZeros, decimal}
+use Rattle.listing_rules.specs.Text.{fiveDigits, decimal}
 
 -- the number that some digits are, after others
 abbrev pub valueAfter : ℕ → List ℕ → ℕ

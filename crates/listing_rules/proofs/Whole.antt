@@ -1,18 +1,15 @@
 -- The pieces, one after another from a fresh listing, are exactly the listing, and they end.
 -- Assumes nothing.
 use mathlib.Core.Path.{_≡_, refl, sym, ap, ap₂, _∙_, subst}
-use mathlib.Core.Bool.{Bool, true, false, cond, not, _&&_}
+use mathlib.Core.Bool.{true, false, not, _&&_}
 use mathlib.Core.List.{List, [], _∷_, _++_, append-assoc, append-nil}
-use mathlib.Core.Option.{some}
-use Prim.Native.Nat.{ℕ, zero, suc, _+_, _*_, _-_, _≤_, _<_}
+use Prim.Native.Nat.{ℕ, zero, suc, _+_, _-_, _≤_, _<_}
 use native.Mathlib.Nat.{add-assoc, add-zero}
 use native.Mathlib.Omega.{arith}
 use lib.Dec.{T, ltb, leb}
-use lib.IntN.{ℤ, negsuc}
-use lib.ListN.{length, take, drop, length-append, length-take, length-drop, take-append-drop}
-use lib.Seq.{take-append-seam, drop-drop, drop-length, length-take-le, take-all}
+use lib.ListN.{length, take, drop, length-append, length-drop, take-append-drop}
+use lib.Seq.{take-append-seam, drop-drop, drop-length}
 use borrow.Author.Tests.{lt-ltb, le-ltb, le-leb, leb-true, ltb-true, ltb-false}
-use Rattle.laws.specs.Groups.{allBelow}
 use Rattle.laws.specs.Lists.{allOf}
 use Rattle.laws.proofs.Bools.{T-true, true-T}
 use Rattle.laws.proofs.Cases.{by-test, both-true, first-true, second-true}
@@ -34,9 +31,9 @@ use Rattle.listing_rules.specs.declared.Reached.{Reached}
 use Rattle.listing_rules.specs.declared.Listing.{Listing}
 use Rattle.listing_rules.specs.declared.Listing.the-variants.{Fresh, Going, Ended}
 use Rattle.listing_rules.specs.Lines.{readingsOf, linesFrom, eventsIn, header, endLine, refusedLine, saidOfCapture, listingOf}
-use Rattle.listing_rules.specs.Pieces.{wrote, wroteNothing, keepsRule, start, nextCharacters, saidOfRun, afterRun, isGoing, pieceOf, listingAfter, nextChecks, doneSays, nextSays, nextLeaves}
+use Rattle.listing_rules.specs.Pieces.{wrote, keepsRule, start, nextCharacters, saidOfRun, afterRun, isGoing, pieceOf, listingAfter, nextChecks, doneSays, nextSays, nextLeaves}
 use Rattle.listing_rules.specs.Demand.{Lister, HandsOut, all, piece, Lists}
-use Rattle.listing_rules.proofs.Runs.{readings-append, said-append, after-append, lines-append, events-append, length-readings, length-said, events-few}
+use Rattle.listing_rules.proofs.Runs.{readings-append, said-append, lines-append, events-append, length-readings, length-said, events-few}
 
 -- ---- the rule is kept
 

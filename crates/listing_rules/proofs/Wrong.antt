@@ -1,15 +1,15 @@
 -- Wrong listers, each refused by what is asked of any.
 -- Assumes nothing.
 use mathlib.Core.Path.{_≡_, refl, sym, ap, _∙_}
-use mathlib.Core.List.{List, [], _∷_, _++_}
+use mathlib.Core.List.{List, [], _++_}
 use Prim.Native.Nat.{ℕ, _<_}
 use native.Mathlib.Omega.{arith}
 use lib.ListN.{length, take, drop, getD, replicate, length-replicate}
 use lib.Seq.{getD-take, take-append-seam}
-use Rattle.capture_rules.specs.Capture.{charactersOf, closingBits, legal}
+use Rattle.capture_rules.specs.Capture.{closingBits, legal}
 use Rattle.listing_rules.specs.declared.Listing.{Listing}
 use Rattle.listing_rules.specs.declared.Listing.the-variants.{Fresh, Going, Ended}
-use Rattle.listing_rules.specs.Lines.{header, listingOf}
+use Rattle.listing_rules.specs.Lines.{header}
 use Rattle.listing_rules.specs.Pieces.{Said, wrote, wroteNothing, start, pieceOf, listingAfter, nextChecks, nextSays, nextLeaves}
 use Rattle.listing_rules.specs.Demand.{Lister, HandsOut, all, piece, Lists}
 use Rattle.listing_rules.proofs.Rows.{empty-capture}

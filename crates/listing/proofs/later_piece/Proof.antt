@@ -2,7 +2,6 @@
 -- Assumes nothing.
 use native.Mathlib.Omega.{arith}
 use Rattle.listing.proofs.Blocks.{end-is}
-use Rattle.listing.proofs.Places.{count-low}
 use Rattle.laws.proofs.Bools.{true-T}
 use Rattle.capture_rules.proofs.Packing.{legal-size}
 use borrow.Author.Needs.{needs}

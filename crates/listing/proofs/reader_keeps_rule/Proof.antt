@@ -1,7 +1,6 @@
 -- Each event that a step can give, by whether it is a refusal.
 -- Assumes nothing.
 use mathlib.Core.Path.{sym, ap, _∙_}
-use mathlib.Core.Option.{none}
 use lib.IntN.{pos}
 use Rattle.packet_rules.specs.Answers.{eventSays}
 use Rattle.packet_rules.specs.declared.Event.{Event}

@@ -1,9 +1,5 @@
 -- The character is found, and is below 1,024.
 -- Assumes nothing.
-use mathlib.Core.Path.{_≡_, sym, ap, _∙_, subst}
-use mathlib.Core.Option.{Option, none, some}
-use Prim.Native.Nat.{ℕ, _%_}
-use native.Mathlib.Omega.{arith}
 use Rattle.listing.proofs.Places.{found-number, found-nothing}
 use borrow.Author.Needs.{needs}
 use Rattle.listing.proofs.block.character_at.Statement.{statement}

@@ -1,6 +1,6 @@
 -- The line of each event.
 -- Assumes nothing.
-use mathlib.Core.Path.{_≡_, sym, subst}
+use mathlib.Core.Path.{sym, subst}
 use Rattle.packet_rules.specs.Answers.{eventSays}
 use Rattle.packet_rules.specs.declared.Event.{Event}
 use Rattle.listing_rules.specs.Lines.{fieldsOf, eventLine}

@@ -1,12 +1,9 @@
 -- The digits without the zeros before them are copied.
 -- Assumes nothing.
-use mathlib.Core.Path.{_≡_, sym, ap, ap₂, _∙_, subst}
+use mathlib.Core.Path.{subst}
 use mathlib.Core.List.{List}
 use Prim.Native.Nat.{ℕ, _-_}
 use native.Mathlib.Omega.{arith}
-use lib.ListN.{length, take, drop, length-drop}
-use lib.Seq.{take-all}
-use Rattle.listing_rules.specs.Text.{fiveDigits, leadingZeros, decimal}
 use Rattle.listing.specs.Writing.{Wrote}
 use Rattle.listing.proofs.Decimal.{zeros-low, decimal-part}
 use borrow.Author.Needs.{needs}
