@@ -1,0 +1,46 @@
+-- One step, and its line.
+-- Assumes nothing.
+use native.Mathlib.Omega.{arith}
+use Rattle.packet_rules.specs.Answers.{eventSays}
+use Rattle.listing_rules.specs.Lines.{fieldsOf}
+use Rattle.listing_rules.proofs.Runs.{listed-low}
+use Rattle.listing.proofs.Lines.{listed-one, listed-short}
+use borrow.Author.Needs.{needs}
+use Rattle.listing.proofs.block.put_result.Statement.{statement}
+use Rattle.listing.proofs.block.put_result.Tie as tie
+
+unpack-result-requires : tie.Need-unpack-result-requires
+unpack-result-requires c κs = search needs
+
+step-requires : tie.Need-step-requires
+step-requires c κs = search needs
+
+put-event-requires : tie.Need-put-event-requires
+put-event-requires c κs = search needs
+
+listed-events-requires : tie.Need-listed-events-requires
+listed-events-requires c κs = search needs
+
+add-events : tie.Need-add-events
+add-events c = omega (arith, c .before .before .before .before .before .before .before .before .before .before .before .pre .1, c .before .listed-events .ensures, listed-low (fieldsOf (eventSays (c .before .before .before .before .before .before .before .step .result .event))))
+
+same-length : tie.Need-same-length
+same-length c = search needs
+
+returns : tie.Need-returns
+returns c = let s = c .before .before .before .before .before .before .before .before .before .before .before in (
+  listed-one (s .args .place) (s .args .result) (s .args .p) (s .args .out .now) (c .before .before .before .before .put-event .last .1 .1 .1 .0) (c .before .before .before .before .before .before .before .before .unpack-result .result) (c .before .before .before .before .before .before .before .step .result) (c .before .before .before .before .put-event .result) (c .before .listed-events .result) (c .before .before .before .before .before .before .before .before .unpack-result .ensures) (c .before .before .before .before .before .before .before .step .ensures) (c .before .before .before .before .put-event .ensures) (c .before .listed-events .ensures),
+  listed-short (s .args .place) (s .args .result) (s .args .p) (s .args .out .now) (c .before .before .before .before .put-event .last .1 .1 .1 .0) (c .before .before .before .before .before .before .before .before .unpack-result .result) (c .before .before .before .before .before .before .before .step .result) (c .before .before .before .before .put-event .result) (c .before .listed-events .result) (c .before .before .before .before .before .before .before .before .unpack-result .ensures) (c .before .before .before .before .before .before .before .step .ensures) (c .before .before .before .before .put-event .ensures) (c .before .listed-events .ensures),
+)
+
+pub put-result-spec : {M : Type 1} → statement M
+put-result-spec =
+    tie.close
+    (tie.spec
+    unpack-result-requires
+    step-requires
+    put-event-requires
+    listed-events-requires
+    add-events
+    same-length
+    returns)

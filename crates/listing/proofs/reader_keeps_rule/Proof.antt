@@ -1,0 +1,99 @@
+-- Each event that a step can give, by whether it is a refusal.
+-- Assumes nothing.
+use mathlib.Core.Path.{sym, ap, _∙_}
+use lib.IntN.{pos}
+use Rattle.packet_rules.specs.Answers.{eventSays}
+use Rattle.packet_rules.specs.declared.Event.{Event}
+use Rattle.listing.proofs.Rule.{notRefused, rule-told}
+use borrow.Author.Needs.{needs}
+use Rattle.listing.proofs.reader_keeps_rule.Statement.{statement}
+use Rattle.listing.proofs.reader_keeps_rule.Tie as tie
+
+step-requires : tie.Need-step-requires
+step-requires c κs = search needs
+
+enum-told : tie.Need-enum-told
+enum-told c = search needs
+
+enum-told-2 : tie.Need-enum-told-2
+enum-told-2 c = search needs
+
+enum-told-3 : tie.Need-enum-told-3
+enum-told-3 c = search needs
+
+enum-told-4 : tie.Need-enum-told-4
+enum-told-4 c = search needs
+
+enum-told-5 : tie.Need-enum-told-5
+enum-told-5 c = search needs
+
+enum-told-6 : tie.Need-enum-told-6
+enum-told-6 c = search needs
+
+enum-told-7 : tie.Need-enum-told-7
+enum-told-7 c = search needs
+
+enum-told-8 : tie.Need-enum-told-8
+enum-told-8 c = search needs
+
+returns : tie.Need-returns
+returns c =
+    ap (λ (e : Event). notRefused (eventSays e .refusal)) (sym (c .enum-told .given .1))
+    ∙ rule-told (c .before .before .before .args .r) (pos 1) (c .before .before .step .result) (c .before .before .step .ensures)
+
+returns-2 : tie.Need-returns-2
+returns-2 c =
+    ap (λ (e : Event). notRefused (eventSays e .refusal)) (sym (c .enum-told2 .given .1))
+    ∙ rule-told (c .before .before .before .args .r) (pos 1) (c .before .before .step .result) (c .before .before .step .ensures)
+
+returns-3 : tie.Need-returns-3
+returns-3 c =
+    ap (λ (e : Event). notRefused (eventSays e .refusal)) (sym (c .enum-told3 .given .1))
+    ∙ rule-told (c .before .before .before .args .r) (pos 1) (c .before .before .step .result) (c .before .before .step .ensures)
+
+returns-4 : tie.Need-returns-4
+returns-4 c =
+    ap (λ (e : Event). notRefused (eventSays e .refusal)) (sym (c .enum-told4 .given .1))
+    ∙ rule-told (c .before .before .before .args .r) (pos 1) (c .before .before .step .result) (c .before .before .step .ensures)
+
+returns-5 : tie.Need-returns-5
+returns-5 c =
+    ap (λ (e : Event). notRefused (eventSays e .refusal)) (sym (c .enum-told5 .given .1))
+    ∙ rule-told (c .before .before .before .args .r) (pos 1) (c .before .before .step .result) (c .before .before .step .ensures)
+
+returns-6 : tie.Need-returns-6
+returns-6 c =
+    ap (λ (e : Event). notRefused (eventSays e .refusal)) (sym (c .enum-told6 .given .1))
+    ∙ rule-told (c .before .before .before .args .r) (pos 1) (c .before .before .step .result) (c .before .before .step .ensures)
+
+returns-7 : tie.Need-returns-7
+returns-7 c =
+    ap (λ (e : Event). notRefused (eventSays e .refusal)) (sym (c .enum-told7 .given .1))
+    ∙ rule-told (c .before .before .before .args .r) (pos 1) (c .before .before .step .result) (c .before .before .step .ensures)
+
+returns-8 : tie.Need-returns-8
+returns-8 c =
+    ap (λ (e : Event). notRefused (eventSays e .refusal)) (sym (c .enum-told8 .given .1))
+    ∙ rule-told (c .before .before .before .args .r) (pos 1) (c .before .before .step .result) (c .before .before .step .ensures)
+
+pub reader-keeps-rule-spec : {M : Type 1} → statement M
+reader-keeps-rule-spec =
+    tie.close
+    (tie.spec
+    step-requires
+    enum-told
+    enum-told-2
+    enum-told-3
+    enum-told-4
+    enum-told-5
+    enum-told-6
+    enum-told-7
+    enum-told-8
+    returns
+    returns-2
+    returns-3
+    returns-4
+    returns-5
+    returns-6
+    returns-7
+    returns-8)
