@@ -1,6 +1,9 @@
 pub mod Bools
 pub mod Table
 pub mod Scan
+pub mod Xor
+pub mod Shifts
+pub mod Check
 pub mod Cases
 pub mod Listed
 pub mod Bits

@@ -1,0 +1,16 @@
+pub mod Told
+pub mod Choice
+pub mod Lowest
+pub mod Kept
+pub mod Violated
+pub mod Runs
+pub mod Steps
+pub mod Fed
+pub mod Legal
+pub mod Register
+pub mod Rows
+pub mod Read
+pub mod Packets
+pub mod Trip
+pub mod Sequences
+pub mod Wrong

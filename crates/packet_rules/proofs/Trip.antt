@@ -1,0 +1,77 @@
+-- The packet round trip: of the rules' own reader and writer; and, of any reader and writer that have it, for any sequence of packets.
+-- Assumes nothing.
+use mathlib.Core.Path.{_≡_, refl, sym, ap, subst, _∙_}
+use mathlib.Core.Bool.{Bool, true}
+use mathlib.Core.List.{List, [], _∷_, _++_}
+use Prim.Native.Nat.{ℕ, _≤_}
+use lib.Dec.{T}
+use lib.IntN.{ℤ}
+use lib.ListN.{length, take, drop}
+use lib.Seq.{take-at}
+use Rattle.refusal.proofs.Laws.{done}
+use Rattle.character_rules.specs.Disparity.{isDisparity}
+use Rattle.character_rules.specs.Answers.{Reading}
+use Rattle.packet_rules.specs.declared.Reader.{Reader}
+use Rattle.packet_rules.specs.Answers.{Said, Answer}
+use Rattle.packet_rules.specs.State.{isSegmentSize, fresh}
+use Rattle.packet_rules.specs.Step.{stepOf}
+use Rattle.packet_rules.specs.Line.{saidOf, afterOf}
+use Rattle.packet_rules.specs.Packets.{Packet, symbolsOf, charactersOf, closingOf, packetChecks, PacketWriting, wrote, notWrote, packetWriting, packetOutput, saidFor}
+use Rattle.packet_rules.specs.RoundTrip.{PacketReader, PacketWriter, Allowed, readings, disparityAfter, AllClean, saysOf, leftOf, ReadBack, PacketRoundTrip}
+use Rattle.packet_rules.proofs.Kept.{fresh-kept}
+use Rattle.packet_rules.proofs.Runs.{runs-said}
+use Rattle.packet_rules.proofs.Legal.{outsides}
+use Rattle.packet_rules.proofs.Read.{comes, closing-is, length-characters}
+use Rattle.packet_rules.proofs.Packets.{legal, can, accepted}
+
+-- the rules' own
+abbrev pub theReader : PacketReader
+theReader = record { State = Reader; fresh = fresh; says = λ r g. stepOf r g .said; next = λ r g. stepOf r g .reader }
+
+abbrev pub theWriter : PacketWriter
+theWriter = record { answers = packetWriting; leaves = packetOutput }
+
+-- the two ways of saying a run are one
+says-is : (r : Reader) (gs : List Reading) → saysOf theReader r gs ≡ saidOf r gs
+unfolding saidOf
+says-is r [] = refl
+says-is r (g ∷ gs) = ap (λ (l : List Said). stepOf r g .said ∷ l) (says-is (stepOf r g .reader) gs)
+
+left-is : (r : Reader) (gs : List Reading) → leftOf theReader r gs ≡ afterOf r gs
+unfolding afterOf
+left-is r [] = refl
+left-is r (g ∷ gs) = left-is (stepOf r g .reader) gs
+
+back : (s : ℕ) (p : Packet) (d : ℤ) → isSegmentSize s ≡ true → Allowed s p → T (isDisparity d)
+    → ReadBack theReader s p d (closingOf (symbolsOf p) d) (charactersOf (symbolsOf p) d)
+back s p d ok h t =
+    let k = comes (symbolsOf p) d (can s p h) t in
+    let gs = readings (charactersOf (symbolsOf p) d) d in
+    let r = runs-said (outsides s (fresh-kept s ok) (symbolsOf p) (saidFor p) (legal s p h)) (k .symbols) in
+    record {
+      clean = k .clean;
+      said = says-is (fresh s) gs ∙ r .0;
+      fresh = left-is (fresh s) gs ∙ r .1;
+      closes = k .closes;
+    }
+
+-- THE ROUND TRIP
+pub packet-round-trip : PacketRoundTrip theReader theWriter
+unfolding packetWriting packetOutput
+packet-round-trip =
+    record {
+      written = λ s p d out ok h t l.
+          let n = length (symbolsOf p) in
+          let cs = packetChecks s p d (length out) in
+          let zero = accepted s p d (length out) ok h t l in
+          let ch = charactersOf (symbolsOf p) d in
+          let e = closingOf (symbolsOf p) d in
+          let out1 : packetOutput s p d out ≡ ch ++ drop n out = done cs (λ m. out) (ch ++ drop n out) zero in
+          let taken : take n (packetOutput s p d out) ≡ ch =
+          ap (take n) out1 ∙ take-at ch (drop n out) n (length-characters (symbolsOf p) d) in (
+            e,
+            closing-is (symbolsOf p) d t,
+            done cs notWrote (wrote n e) zero,
+            subst (λ (c : List ℕ). ReadBack theReader s p d e c) (sym taken) (back s p d ok h t),
+          );
+    }
