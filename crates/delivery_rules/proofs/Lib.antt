@@ -1,0 +1,17 @@
+pub mod Ordered
+pub mod Seeing
+pub mod Calms
+pub mod Drills
+pub mod Round
+pub mod Lines
+pub mod Calls
+pub mod Invariant
+pub mod Ticks
+pub mod Sequence
+pub mod SenderSteps
+pub mod ReplySteps
+pub mod ArrivalSteps
+pub mod Safety
+pub mod Resending
+pub mod Recovery
+pub mod Theorem

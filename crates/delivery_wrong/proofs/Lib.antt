@@ -1,0 +1,9 @@
+pub mod Never
+pub mod ByRun
+pub mod OneCall
+pub mod Sixteen
+pub mod RightInvariant
+pub mod RightSteps
+pub mod Right
+pub mod Wide
+pub mod WrongChoices

@@ -1,0 +1,2 @@
+pub mod Altered
+pub mod Plain

@@ -1,0 +1,217 @@
+// The sender's eight buffers, one lent run of 8 times S bytes: an offer stores a segment, a send takes one out.
+use refusal;
+use retry_parts::lent::lay;
+use retry_parts::numbers::after;
+use retry_rules::Counters;
+use retry_rules::DOWN;
+use retry_rules::Offered;
+use retry_rules::Sender;
+use retry_rules::Sent;
+use retry_rules::Slots;
+use retry_state::rule::sender_is_ruled;
+ghost use mathlib.Core.Path.{_≡_};
+ghost use Prim.Native.Nat.{_<_, _≤_, _+_, _*_, max};
+ghost use lib.ListN.{length};
+ghost use Rattle.refusal.specs.Order.{refusalOf};
+ghost use Rattle.retry_rules.specs.States.{slotOf};
+ghost use Rattle.retry_rules.specs.Refused.{refusedSend};
+ghost use Rattle.retry_rules.specs.Lent.{heldLength};
+ghost use Rattle.retry_rules.specs.Offer.{offerChecks, storedIn, offerOf, offerBuffers};
+ghost use Rattle.retry_rules.specs.Send.{sendChecks, oneSent, dueSent, sendOf, sendOutput};
+
+// The buffer of the segment that stands i after the oldest: number k is in buffer k mod 8.
+fn slot_of(c: Counters, i: u8) -> usize
+    ensures { λ r. ⌜ (r ≡ slotOf c i) × (r < 8) ⌝ }
+{
+    (c.oldest as usize + i as usize) % 8
+}
+
+// Where a buffer begins in the lent run.
+fn buffer_at(slot: usize, size: u16) -> usize
+    requires { ⌜ slot < 8 ⌝ }
+    ensures { λ r. ⌜ (r ≡ slot * size) × (r + size ≤ 8 * size) ⌝ }
+{
+    slot * (size as usize)
+}
+
+// The number that an offer is refused with; 0 is none.
+fn offer_refusal(sender: Sender, lent: usize, channel: u32, length: usize) -> u8
+    ensures { λ r. ⌜ r ≡ refusalOf (offerChecks sender lent channel length) ⌝ }
+{
+    let c = sender.counters;
+    if c.link == DOWN {
+        return refusal::LINK_DOWN;
+    }
+    if !sender_is_ruled(sender) {
+        return refusal::OUT_OF_RANGE;
+    }
+    if lent != 8 * (c.size as usize) {
+        return refusal::OUT_OF_RANGE;
+    }
+    if 16 <= channel {
+        return refusal::OUT_OF_RANGE;
+    }
+    if (c.size as usize) < length {
+        return refusal::SEGMENT_SIZE;
+    }
+    if length == 0 {
+        return refusal::NO_BYTES;
+    }
+    if c.stored == 8 {
+        return refusal::FULL;
+    }
+    0
+}
+
+// One more is stored, in the free buffer, and waits.
+fn stored_in(sender: Sender, channel: u8, bad: bool, length: u16) -> Sender
+    requires { ⌜ sender .counters .stored < 8 ⌝ }
+    ensures { λ r. ⌜ r ≡ storedIn sender channel bad length ⌝ }
+{
+    let mut c = sender.counters;
+    let free = slot_of(c, c.stored);
+    let slots = sender.slots;
+    let mut lengths = slots.lengths;
+    let mut channels = slots.channels;
+    let mut marks = slots.bad;
+    lengths[free] = length;
+    channels[free] = channel;
+    marks[free] = bad;
+    c.stored = c.stored + 1;
+    Sender {
+        counters: c,
+        slots: Slots {
+            lengths,
+            channels,
+            bad: marks,
+        },
+    }
+}
+
+// An offer: a segment is stored, if there is a free buffer, and gets the number after the last stored one.
+pub fn offer(sender: Sender, buffers: &mut [u8], channel: u32, bad: bool, bytes: &[u8]) -> Offered
+    ensures { λ r. ⌜ (r ≡ offerOf sender (length (now (buffers .entry))) channel bad (length (now (bytes .entry)))) × (now (buffers .exit) ≡ offerBuffers sender (now (buffers .entry)) channel (now (bytes .entry))) ⌝ }
+{
+    let refusal = offer_refusal(sender, buffers.len(), channel, bytes.len());
+    if refusal != 0 {
+        return Offered {
+            refusal,
+            number: 0,
+            sender,
+        };
+    }
+    let c = sender.counters;
+    let at = buffer_at(slot_of(c, c.stored), c.size);
+    lay(bytes, buffers, at);
+    Offered {
+        refusal: 0,
+        number: after(c.oldest, c.stored),
+        sender: stored_in(sender, channel as u8, bad, bytes.len() as u16),
+    }
+}
+
+// How long what a buffer holds is.
+fn held_length(sender: Sender, slot: usize) -> u16
+    requires { ⌜ slot < 8 ⌝ }
+    ensures { λ r. ⌜ r ≡ heldLength sender slot ⌝ }
+{
+    let slots = sender.slots;
+    let lengths = slots.lengths;
+    lengths[slot]
+}
+
+// The number that a send is refused with; 0 is none.
+fn send_refusal(sender: Sender, lent: usize, output: usize) -> u8
+    ensures { λ r. ⌜ r ≡ refusalOf (sendChecks sender lent output) ⌝ }
+{
+    let c = sender.counters;
+    if c.link == DOWN {
+        return refusal::LINK_DOWN;
+    }
+    if !sender_is_ruled(sender) {
+        return refusal::OUT_OF_RANGE;
+    }
+    if lent != 8 * (c.size as usize) {
+        return refusal::OUT_OF_RANGE;
+    }
+    if c.point < c.stored {
+        let due = slot_of(c, c.point);
+        if output < held_length(sender, due) as usize {
+            return refusal::SHORT_OUTPUT;
+        }
+    }
+    0
+}
+
+// Nothing is sent: by a refusal, or, with 0, since the send point is past the last stored segment.
+fn unsent(sender: Sender, refusal: u8) -> Sent
+    ensures { λ r. ⌜ r ≡ refusedSend sender refusal ⌝ }
+{
+    Sent {
+        refusal,
+        sent: false,
+        number: 0,
+        channel: 0,
+        bad: false,
+        length: 0,
+        sender,
+    }
+}
+
+// The send point moves on; a segment sent for the first time waits no longer.
+fn one_sent(c: Counters) -> Counters
+    requires { ⌜ c .point < 8 ⌝ }
+    ensures { λ r. ⌜ r ≡ oneSent c ⌝ }
+{
+    let mut d = c;
+    let point = c.point + 1;
+    d.point = point;
+    if c.outstanding < point {
+        d.outstanding = point;
+    }
+    d
+}
+
+// The segment at the send point goes out.
+fn due_sent(sender: Sender) -> Sent
+    requires { ⌜ sender .counters .point < 8 ⌝ }
+    ensures { λ r. ⌜ r ≡ dueSent sender ⌝ }
+{
+    let c = sender.counters;
+    let due = slot_of(c, c.point);
+    let slots = sender.slots;
+    let lengths = slots.lengths;
+    let channels = slots.channels;
+    let marks = slots.bad;
+    Sent {
+        refusal: 0,
+        sent: true,
+        number: after(c.oldest, c.point),
+        channel: channels[due],
+        bad: marks[due],
+        length: lengths[due],
+        sender: Sender {
+            counters: one_sent(c),
+            slots,
+        },
+    }
+}
+
+// A send: the segment at the send point goes out, its bytes into `output`, and the send point moves on.
+pub fn send(sender: Sender, buffers: &[u8], output: &mut [u8]) -> Sent
+    ensures { λ r. ⌜ (r ≡ sendOf sender (length (now (buffers .entry))) (length (now (output .entry)))) × (now (output .exit) ≡ sendOutput sender (now (buffers .entry)) (now (output .entry))) ⌝ }
+{
+    let refusal = send_refusal(sender, buffers.len(), output.len());
+    if refusal != 0 {
+        return unsent(sender, refusal);
+    }
+    let c = sender.counters;
+    if c.stored <= c.point {
+        return unsent(sender, 0);
+    }
+    let sent = due_sent(sender);
+    let from = buffer_at(slot_of(c, c.point), c.size);
+    let to = from + sent.length as usize;
+    lay(&buffers[from..to], output, 0);
+    sent
+}
