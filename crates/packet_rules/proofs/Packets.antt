@@ -41,7 +41,7 @@ legal s (retry nack n) h = within (fill (reply nack n h))
 
 -- ---- symbols that can be written
 
-byte-can : (b : ℕ) → b < 256 → T (canWrite (dataSymbol b))
+pub byte-can : (b : ℕ) → b < 256 → T (canWrite (dataSymbol b))
 byte-can b h = and-both (ltb b 256) true (lt→ltb b 256 h) tt
 
 bytes-can : (bs : List ℕ) → T (allOf (λ b. ltb b 256) bs) → T (allOf canWrite (map dataSymbol bs))
@@ -64,17 +64,18 @@ unfolding isTwelve
 end-can true = tt
 end-can false = tt
 
+pub closing-can : (o : ℕ) (bs : List ℕ) (bad : Bool) → o < 256 → T (allOf canWrite (closing bad o bs))
+closing-can o bs bad ho =
+    and-both (canWrite (endSymbol bad)) (allOf canWrite (dataSymbol o ∷ map dataSymbol (crcOf bs))) (end-can bad)
+    (and-both (canWrite (dataSymbol o)) (allOf canWrite (map dataSymbol (crcOf bs))) (byte-can o ho) (crc-can bs))
+
 packet-can : (x : Symbol) (o : ℕ) (bs : List ℕ) (bad : Bool) → T (canWrite x) → o < 256 → T (allOf (λ b. ltb b 256) bs)
     → T (allOf canWrite (packetSymbols x o bs bad))
 packet-can x o bs bad cx ho hb =
-    let tail = dataSymbol o ∷ map dataSymbol (crcOf bs) in
-    let closed : T (allOf canWrite (closing bad o bs)) =
-    and-both (canWrite (endSymbol bad)) (allOf canWrite tail) (end-can bad)
-    (and-both (canWrite (dataSymbol o)) (allOf canWrite (map dataSymbol (crcOf bs))) (byte-can o ho) (crc-can bs)) in
     let body = map dataSymbol bs ++ closing bad o bs in
     and-both (canWrite x) (allOf canWrite (dataSymbol o ∷ body)) cx
     (and-both (canWrite (dataSymbol o)) (allOf canWrite body) (byte-can o ho)
-    (all-append canWrite (map dataSymbol bs) (closing bad o bs) (bytes-can bs hb) closed))
+    (all-append canWrite (map dataSymbol bs) (closing bad o bs) (bytes-can bs hb) (closing-can o bs bad ho)))
 
 pub can : (s : ℕ) (p : Packet) → Allowed s p → T (allOf canWrite (symbolsOf p))
 unfolding symbolsOf isTwelve

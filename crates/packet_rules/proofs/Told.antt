@@ -10,6 +10,9 @@ use Rattle.packet_rules.specs.declared.Reader.{Reader}
 use Rattle.packet_rules.specs.declared.Step.{Step}
 use Rattle.packet_rules.specs.declared.FreshReader.{FreshReader}
 use Rattle.packet_rules.specs.declared.FreshReader.the-variants.{Ready, Refused as NotMade}
+use Rattle.packet_rules.specs.declared.Written.{Written}
+use Rattle.packet_rules.specs.declared.Written.the-variants.{Done, Refused as NotDone}
+use Rattle.packet_rules.specs.Packets.{PacketWriting, writtenSays}
 use Rattle.packet_rules.specs.History.{given}
 use Rattle.packet_rules.specs.Answers.{Said, Start, Reply, Answer, Made, eventSays, stepSays, freshSays}
 
@@ -54,3 +57,13 @@ one-step a b e = sym (step-told a) ∙ ap theStep e ∙ step-told b
 
 pub one-fresh : (a b : FreshReader) → freshSays a ≡ freshSays b → a ≡ b
 one-fresh a b e = sym (fresh-told a) ∙ ap theFresh e ∙ fresh-told b
+
+abbrev pub theWritten : PacketWriting → Written
+theWritten w = given (w .count) (λ n. given (w .disparity) (Done n) (NotDone 0)) (given (w .refusal) NotDone (NotDone 0))
+
+pub written-told : (a : Written) → theWritten (writtenSays a) ≡ a
+written-told (Done n e) = refl
+written-told (NotDone n) = refl
+
+pub one-written : (a b : Written) → writtenSays a ≡ writtenSays b → a ≡ b
+one-written a b e = sym (written-told a) ∙ ap theWritten e ∙ written-told b

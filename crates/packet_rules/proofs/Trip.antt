@@ -16,7 +16,7 @@ use Rattle.packet_rules.specs.Answers.{Said, Answer}
 use Rattle.packet_rules.specs.State.{isSegmentSize, fresh}
 use Rattle.packet_rules.specs.Step.{stepOf}
 use Rattle.packet_rules.specs.Line.{saidOf, afterOf}
-use Rattle.packet_rules.specs.Packets.{Packet, symbolsOf, charactersOf, closingOf, packetChecks, PacketWriting, wrote, notWrote, packetWriting, packetOutput, saidFor}
+use Rattle.packet_rules.specs.Packets.{Packet, inData, retry, symbolsOf, charactersOf, closingOf, packetChecks, PacketWriting, wrote, notWrote, packetWriting, packetOutput, saidFor}
 use Rattle.packet_rules.specs.RoundTrip.{PacketReader, PacketWriter, Allowed, readings, disparityAfter, AllClean, saysOf, leftOf, ReadBack, PacketRoundTrip}
 use Rattle.packet_rules.proofs.Kept.{fresh-kept}
 use Rattle.packet_rules.proofs.Runs.{runs-said}
@@ -75,3 +75,16 @@ packet-round-trip =
             subst (λ (c : List ℕ). ReadBack theReader s p d e c) (sym taken) (back s p d ok h t),
           );
     }
+
+-- S plays no part in a data packet and in a retry LMP: what is promised of them at S = 0 holds at every S
+pub any-size-data : (s c : ℕ) (bytes : List ℕ) (bad : Bool) (d : ℤ) (out : List ℕ)
+    → (packetWriting 0 (inData c bytes bad) d out ≡ packetWriting s (inData c bytes bad) d out)
+    × (packetOutput 0 (inData c bytes bad) d out ≡ packetOutput s (inData c bytes bad) d out)
+unfolding packetWriting packetOutput
+any-size-data s c bytes bad d out = (refl, refl)
+
+pub any-size-retry : (s : ℕ) (nack : Bool) (n : ℕ) (d : ℤ) (out : List ℕ)
+    → (packetWriting 0 (retry nack n) d out ≡ packetWriting s (retry nack n) d out)
+    × (packetOutput 0 (retry nack n) d out ≡ packetOutput s (retry nack n) d out)
+unfolding packetWriting packetOutput
+any-size-retry s nack n d out = (refl, refl)

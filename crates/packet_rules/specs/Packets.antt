@@ -12,6 +12,8 @@ use Rattle.symbol.specs.Symbols.{dataSymbol}
 use Rattle.symbol.specs.declared.Symbol.{Symbol}
 use Rattle.character_rules.specs.Disparity.{isDisparity}
 use Rattle.character_rules.specs.Blocks.{character, closing as closingAfter}
+use Rattle.packet_rules.specs.declared.Written.{Written}
+use Rattle.packet_rules.specs.declared.Written.the-variants.{Done, Refused}
 use Rattle.packet_rules.specs.State.{isSegmentSize}
 use Rattle.packet_rules.specs.Answers.{Said, nothing, started, gaveByte, replied}
 use Rattle.packet_rules.specs.Line.{SPP, SDP, SLP, closing, closingSaid}
@@ -68,6 +70,10 @@ wrote n e = record { refusal = none; count = some n; disparity = some e }
 
 abbrev pub notWrote : ℕ → PacketWriting
 notWrote n = record { refusal = some n; count = none; disparity = none }
+
+abbrev pub writtenSays : Written → PacketWriting
+writtenSays (Done n e) = wrote n e
+writtenSays (Refused n) = notWrote n
 
 unfoldable pub packetWriting : ℕ → Packet → ℤ → List ℕ → PacketWriting
 packetWriting s p d out = outcome (packetChecks s p d (length out)) notWrote (wrote (length (symbolsOf p)) (closingOf (symbolsOf p) d))

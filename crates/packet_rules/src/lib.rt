@@ -98,3 +98,11 @@ pub enum FreshReader {
     // The number of the refusal.
     Refused(u8),
 }
+
+// What writing a packet answers.
+pub enum Written {
+    // How many characters were written, and the closing disparity.
+    Done { count: usize, disparity: i32 },
+    // The number of the refusal.
+    Refused(u8),
+}

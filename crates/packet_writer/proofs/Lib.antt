@@ -1,0 +1,4 @@
+pub mod Laws
+pub mod Turns
+pub mod Parts
+pub mod Outcome
