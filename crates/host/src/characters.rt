@@ -1,4 +1,5 @@
 // Writing and reading characters.
+use crate::marks::mark_number;
 use character_rules::Decoded;
 use character_rules::Encoded;
 use character_rules::RunRead;
@@ -9,13 +10,6 @@ ghost use Rattle.character_rules.specs.Reading.{reading};
 ghost use Rattle.character_rules.specs.Results.{runReading, runOutput};
 ghost use Rattle.host_rules.specs.Numbers.{markNumber, orOld};
 ghost use Rattle.host_rules.specs.Characters.{writingNumbers, byteIn, controlIn, afterResult};
-
-// A mark that is handed out: 0 or 1.
-fn mark_number(mark: bool) -> u32
-    ensures { λ r. ⌜ r ≡ markNumber mark ⌝ }
-{
-    if mark { 1 } else { 0 }
-}
 
 // A symbol written as a character at a disparity, which is turned to the closing one.
 #[no_mangle]
