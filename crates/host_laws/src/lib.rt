@@ -1,0 +1,1 @@
+// What the host's encodings say beyond one call. There is no code here.

@@ -1,0 +1,199 @@
+// The states of both retry ends in lent bytes: stored and loaded.
+use retry_rules::Counters;
+use retry_rules::Receiver;
+use retry_rules::Sender;
+use retry_rules::Slots;
+ghost use mathlib.Core.Path.{_≡_};
+ghost use Prim.Native.Nat.{_≤_, _/_};
+ghost use Rattle.host_rules.specs.Numbers.{markNumber};
+ghost use Rattle.host_retry_rules.specs.SenderBytes.{two, maskOf, marksOf, countersIn, lengthsIn, channelsIn, senderIn, senderBytes};
+ghost use Rattle.host_retry_rules.specs.ReceiverBytes.{receiverIn, receiverBytes};
+
+fn two(high: u8, low: u8) -> u16
+    ensures { λ r. ⌜ r ≡ two high low ⌝ }
+{
+    high as u16 * 256 + low as u16
+}
+
+fn mark_number(mark: bool) -> u8
+    ensures { λ r. ⌜ (r ≡ markNumber mark) × (r ≤ 1) ⌝ }
+{
+    if mark { 1 } else { 0 }
+}
+
+// Eight marks in one byte, the first in its lowest bit.
+fn mask_of(marks: [bool; 8]) -> u8
+    ensures { λ r. ⌜ r ≡ maskOf marks ⌝ }
+{
+    let m0 = mark_number(marks[0]);
+    let m1 = mark_number(marks[1]);
+    let m2 = mark_number(marks[2]);
+    let m3 = mark_number(marks[3]);
+    let m4 = mark_number(marks[4]);
+    let m5 = mark_number(marks[5]);
+    let m6 = mark_number(marks[6]);
+    let m7 = mark_number(marks[7]);
+    m0 + 2 * (m1 + 2 * (m2 + 2 * (m3 + 2 * (m4 + 2 * (m5 + 2 * (m6 + 2 * m7))))))
+}
+
+fn marks_of(mask: u8) -> [bool; 8]
+    ensures { λ r. ⌜ r ≡ marksOf mask ⌝ }
+{
+    let m1 = mask / 2;
+    let m2 = m1 / 2;
+    let m3 = m2 / 2;
+    let m4 = m3 / 2;
+    let m5 = m4 / 2;
+    let m6 = m5 / 2;
+    let m7 = m6 / 2;
+    [
+        mask % 2 == 1,
+        m1 % 2 == 1,
+        m2 % 2 == 1,
+        m3 % 2 == 1,
+        m4 % 2 == 1,
+        m5 % 2 == 1,
+        m6 % 2 == 1,
+        m7 % 2 == 1,
+    ]
+}
+
+fn counters_in(b: [u8; 38]) -> Counters
+    ensures { λ r. ⌜ r ≡ countersIn b ⌝ }
+{
+    let timer = two(b[5], b[6]);
+    let columns = two(b[8], b[9]);
+    let size = two(b[10], b[11]);
+    Counters {
+        oldest: b[0],
+        stored: b[1],
+        outstanding: b[2],
+        point: b[3],
+        released: b[4],
+        timer,
+        expiries: b[7],
+        columns,
+        size,
+        link: b[12],
+    }
+}
+
+fn lengths_in(b: [u8; 38]) -> [u16; 8]
+    ensures { λ r. ⌜ r ≡ lengthsIn b ⌝ }
+{
+    [
+        two(b[13], b[14]),
+        two(b[15], b[16]),
+        two(b[17], b[18]),
+        two(b[19], b[20]),
+        two(b[21], b[22]),
+        two(b[23], b[24]),
+        two(b[25], b[26]),
+        two(b[27], b[28]),
+    ]
+}
+
+fn channels_in(b: [u8; 38]) -> [u8; 8]
+    ensures { λ r. ⌜ r ≡ channelsIn b ⌝ }
+{
+    [b[29], b[30], b[31], b[32], b[33], b[34], b[35], b[36]]
+}
+
+// The sender that bytes stand for.
+pub fn sender_in(b: [u8; 38]) -> Sender
+    ensures { λ r. ⌜ r ≡ senderIn b ⌝ }
+{
+    let counters = counters_in(b);
+    let lengths = lengths_in(b);
+    let channels = channels_in(b);
+    let bad = marks_of(b[37]);
+    let slots = Slots {
+        lengths,
+        channels,
+        bad,
+    };
+    Sender { counters, slots }
+}
+
+fn high(n: u16) -> u8
+    ensures { λ r. ⌜ r ≡ n / 256 ⌝ }
+{
+    (n / 256) as u8
+}
+
+// A sender as its bytes.
+pub fn sender_bytes(s: Sender) -> [u8; 38]
+    ensures { λ r. ⌜ r ≡ senderBytes s ⌝ }
+{
+    let c = s.counters;
+    let slots = s.slots;
+    let l = slots.lengths;
+    let h = slots.channels;
+    let bad = slots.bad;
+    let mask = mask_of(bad);
+    [
+        c.oldest,
+        c.stored,
+        c.outstanding,
+        c.point,
+        c.released,
+        (c.timer / 256) as u8,
+        (c.timer % 256) as u8,
+        c.expiries,
+        (c.columns / 256) as u8,
+        (c.columns % 256) as u8,
+        (c.size / 256) as u8,
+        (c.size % 256) as u8,
+        c.link,
+        high(l[0]),
+        (l[0] % 256) as u8,
+        high(l[1]),
+        (l[1] % 256) as u8,
+        high(l[2]),
+        (l[2] % 256) as u8,
+        high(l[3]),
+        (l[3] % 256) as u8,
+        high(l[4]),
+        (l[4] % 256) as u8,
+        high(l[5]),
+        (l[5] % 256) as u8,
+        high(l[6]),
+        (l[6] % 256) as u8,
+        high(l[7]),
+        (l[7] % 256) as u8,
+        h[0],
+        h[1],
+        h[2],
+        h[3],
+        h[4],
+        h[5],
+        h[6],
+        h[7],
+        mask,
+    ]
+}
+
+// The receiver that bytes stand for.
+pub fn receiver_in(b: [u8; 4]) -> Receiver
+    ensures { λ r. ⌜ r ≡ receiverIn b ⌝ }
+{
+    let size = two(b[2], b[3]);
+    Receiver {
+        expected: b[0],
+        received: b[1],
+        size,
+    }
+}
+
+// A receiver as its bytes.
+pub fn receiver_bytes(r: Receiver) -> [u8; 4]
+    ensures { λ b. ⌜ b ≡ receiverBytes r ⌝ }
+{
+    let size = r.size;
+    [
+        r.expected,
+        r.received,
+        (size / 256) as u8,
+        (size % 256) as u8,
+    ]
+}

@@ -1,0 +1,2 @@
+pub mod SenderBytes
+pub mod ReceiverBytes

@@ -1,0 +1,5 @@
+pub mod Numbers
+pub mod Characters
+pub mod Captures
+pub mod ReaderBytes
+pub mod Stepping

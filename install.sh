@@ -1,0 +1,18 @@
+#!/usr/bin/env bash
+# Puts the header, the archive and a pkg-config file under a prefix: install.sh PREFIX. Builds the archive, which proves it, where it is not built.
+set -euo pipefail
+prefix=${1:?install.sh PREFIX}
+cd "$(dirname "$0")"
+[ -e target/staticlib/libhost.a ] || rt staticlib host
+mkdir -p "$prefix/include" "$prefix/lib/pkgconfig"
+prefix=$(cd "$prefix" && pwd)
+cp include/buzzgarland.h "$prefix/include/"
+cp target/staticlib/libhost.a "$prefix/lib/libbuzzgarland.a"
+cat > "$prefix/lib/pkgconfig/buzzgarland.pc" <<END
+prefix=$prefix
+Name: buzzgarland
+Description: the proved core of a converter on a SerialLite II link
+Version: 1.0
+Cflags: -I\${prefix}/include
+Libs: -L\${prefix}/lib -lbuzzgarland
+END
