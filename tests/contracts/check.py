@@ -8,18 +8,18 @@ import re
 import sys
 
 ROOT = pathlib.Path(__file__).resolve().parents[2]
-HEAD = re.compile(r'^[ \t]*pub (?:extern "C" )?fn (\w+)(.*?)\n[ \t]*\{\n', re.M | re.S)
+HEAD = re.compile(r'^[ \t]*pub (extern "C" )?fn (\w+)(.*?)\n[ \t]*\{\n', re.M | re.S)
 
 
 def functions(crate):
-    """(file, name, what stands between the name and the body) of each function that another crate can call"""
+    """(file, name, what stands between the name and the body) of each function that another crate, or C, can call"""
     root = (crate / "src" / "lib.rt").read_text(encoding="utf-8")
     private = set(re.findall(r"^mod (\w+);", root, re.M))
     passed_on = set(re.findall(r"^pub use (?:\w+::)*(\w+);", root, re.M))
     for source in sorted((crate / "src").rglob("*.rt")):
         text = re.sub(r"//[^\n]*", "", source.read_text(encoding="utf-8"))
-        for name, rest in HEAD.findall(text):
-            if source.stem not in private or name in passed_on:
+        for exported, name, rest in HEAD.findall(text):
+            if exported or source.stem not in private or name in passed_on:
                 yield source.relative_to(ROOT), name, rest
 
 
