@@ -82,7 +82,7 @@ fn block_length(left: usize) -> usize
 }
 
 // The lines of the next characters.
-pub fn next_lines(capture: &[u8], p: Reached, out: &mut [u8]) -> Next
+pub(crate) fn next_lines(capture: &[u8], p: Reached, out: &mut [u8]) -> Next
     requires { ⌜ (length (now out) ≡ 2048) × (legal (now capture) ≡ true) × (keepsRule p ≡ true) × (p .place < characterCount (length (now capture))) ⌝ }
     ensures { λ r. ⌜ (says r ≡ doneSays (now (capture .entry)) (IsGoing p)) × (now (out .exit) ≡ pieceOf (now (capture .entry)) (IsGoing p) ++ drop (length (pieceOf (now (capture .entry)) (IsGoing p))) (now (out .entry))) ⌝ }
 {
@@ -114,7 +114,7 @@ pub fn next_lines(capture: &[u8], p: Reached, out: &mut [u8]) -> Next
 }
 
 // The last line.
-pub fn put_end(characters: usize, events: usize, out: &mut [u8]) -> usize
+pub(crate) fn put_end(characters: usize, events: usize, out: &mut [u8]) -> usize
     requires { ⌜ length (now out) ≡ 2048 ⌝ }
     ensures { λ r. ⌜ (r ≡ length (endLine characters events)) × (now (out .exit) ≡ endLine characters events ++ drop (length (endLine characters events)) (now (out .entry))) ⌝ }
 {

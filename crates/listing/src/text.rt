@@ -9,7 +9,7 @@ ghost use Rattle.listing_rules.specs.Text.{fiveDigits, leadingZeros, decimal, l
 ghost use Rattle.listing_rules.specs.Lines.{fieldsOf, eventLine, listed};
 ghost use Rattle.listing.specs.Writing.{Wrote};
 
-pub fn put(text: &[u8], at: usize, out: &mut [u8]) -> usize
+pub(crate) fn put(text: &[u8], at: usize, out: &mut [u8]) -> usize
     requires { ⌜ at + length (now text) ≤ length (now out) ⌝ }
     ensures { λ r. ⌜ Wrote at (now (text .entry)) (now (out .entry)) (now (out .exit)) r ⌝ }
 {
@@ -57,7 +57,7 @@ fn leading_zeros(n: usize) -> usize
     0
 }
 
-pub fn put_number(n: usize, at: usize, out: &mut [u8]) -> usize
+pub(crate) fn put_number(n: usize, at: usize, out: &mut [u8]) -> usize
     requires { ⌜ at + 5 ≤ length (now out) ⌝ }
     ensures { λ r. ⌜ Wrote at (decimal n) (now (out .entry)) (now (out .exit)) r ⌝ }
 {
@@ -67,7 +67,7 @@ pub fn put_number(n: usize, at: usize, out: &mut [u8]) -> usize
 }
 
 // A line that ends in a number: the place, the words with the spaces about them, the number.
-pub fn put_numbered(place: usize, words: &[u8], n: usize, at: usize, out: &mut [u8]) -> usize
+pub(crate) fn put_numbered(place: usize, words: &[u8], n: usize, at: usize, out: &mut [u8]) -> usize
     requires { ⌜ at + (length (now words) + 11) ≤ length (now out) ⌝ }
     ensures { λ r. ⌜ Wrote at (decimal place ++ (now (words .entry) ++ (decimal n ++ lineFeed ∷ []))) (now (out .entry)) (now (out .exit)) r ⌝ }
 {
@@ -78,7 +78,7 @@ pub fn put_numbered(place: usize, words: &[u8], n: usize, at: usize, out: &mut [
 }
 
 // A line that ends in words.
-pub fn put_worded(place: usize, words: &[u8], at: usize, out: &mut [u8]) -> usize
+pub(crate) fn put_worded(place: usize, words: &[u8], at: usize, out: &mut [u8]) -> usize
     requires { ⌜ at + (length (now words) + 5) ≤ length (now out) ⌝ }
     ensures { λ r. ⌜ Wrote at (decimal place ++ now (words .entry)) (now (out .entry)) (now (out .exit)) r ⌝ }
 {
@@ -86,7 +86,7 @@ pub fn put_worded(place: usize, words: &[u8], at: usize, out: &mut [u8]) -> usiz
     put(words, a, out)
 }
 
-pub fn put_end_of_packet(place: usize, bad: bool, at: usize, out: &mut [u8]) -> usize
+pub(crate) fn put_end_of_packet(place: usize, bad: bool, at: usize, out: &mut [u8]) -> usize
     requires { ⌜ at + 32 ≤ length (now out) ⌝ }
     ensures { λ r. ⌜ Wrote at (eventLine place (fieldsOf (eventSays (Event.End bad)))) (now (out .entry)) (now (out .exit)) r ⌝ }
 {
@@ -96,7 +96,7 @@ pub fn put_end_of_packet(place: usize, bad: bool, at: usize, out: &mut [u8]) -> 
     put_worded(place, b" end good\n", at, out)
 }
 
-pub fn put_lmp(place: usize, nack: bool, number: u8, at: usize, out: &mut [u8]) -> usize
+pub(crate) fn put_lmp(place: usize, nack: bool, number: u8, at: usize, out: &mut [u8]) -> usize
     requires { ⌜ at + 32 ≤ length (now out) ⌝ }
     ensures { λ r. ⌜ Wrote at (eventLine place (fieldsOf (eventSays (Event.Lmp nack number)))) (now (out .entry)) (now (out .exit)) r ⌝ }
 {
@@ -107,7 +107,7 @@ pub fn put_lmp(place: usize, nack: bool, number: u8, at: usize, out: &mut [u8]) 
 }
 
 // An event's line; none for nothing and for a byte.
-pub fn put_event(place: usize, event: Event, at: usize, out: &mut [u8]) -> usize
+pub(crate) fn put_event(place: usize, event: Event, at: usize, out: &mut [u8]) -> usize
     requires { ⌜ at + 32 ≤ length (now out) ⌝ }
     ensures { λ r. ⌜ Wrote at (eventLine place (fieldsOf (eventSays event))) (now (out .entry)) (now (out .exit)) r ⌝ }
 {
@@ -133,7 +133,7 @@ pub fn put_event(place: usize, event: Event, at: usize, out: &mut [u8]) -> usize
 }
 
 // 1 for an event that has a line.
-pub fn listed_events(event: Event) -> usize
+pub(crate) fn listed_events(event: Event) -> usize
     ensures { λ r. ⌜ r ≡ listed (fieldsOf (eventSays event)) ⌝ }
 {
     match event {
