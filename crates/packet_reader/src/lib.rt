@@ -117,7 +117,7 @@ pub fn step(r: Reader, result: Decoded) -> Step
 pub fn fresh(s: u32) -> FreshReader
     ensures { λ r. ⌜ freshSays r ≡ freshReader s ⌝ }
 {
-    if standing::is_segment_size(s) {
+    if segment_size::size_is_allowed(s) {
         let reader = Reader {
             size: (s % 65536) as u16,
             packet: DataPacket::NoData,

@@ -7,7 +7,7 @@ use packet_rules::Reader;
 ghost use mathlib.Core.Path.{_≡_};
 ghost use lib.Dec.{eqb};
 ghost use Rattle.crc.specs.Crc16.{crcStart};
-ghost use Rattle.packet_rules.specs.State.{isSegmentSize, noPriority, outside, hasByte, openingByte, registerIn};
+ghost use Rattle.packet_rules.specs.State.{noPriority, outside, hasByte, openingByte, registerIn};
 ghost use Rattle.packet_rules.specs.State.{dataRule, priorityRule, dueRule, phaseRule, wellFormed};
 
 pub fn is_outside(d: DataPacket, p: PriorityPacket) -> bool
@@ -64,22 +64,6 @@ pub fn register_in(d: DataPacket, p: PriorityPacket) -> u16
             DataPacket::InData { register, .. } => register,
             DataPacket::NoData => crc::start(),
         },
-    }
-}
-
-pub fn is_segment_size(s: u32) -> bool
-    ensures { λ r. ⌜ r ≡ isSegmentSize s ⌝ }
-{
-    match s {
-        8 => true,
-        16 => true,
-        32 => true,
-        64 => true,
-        128 => true,
-        256 => true,
-        512 => true,
-        1024 => true,
-        _ => false,
     }
 }
 
@@ -155,7 +139,7 @@ pub fn is_well_formed(r: Reader) -> bool
     let d = r.packet;
     let p = r.priority;
     let phase = r.phase;
-    if is_segment_size(size as u32) {
+    if segment_size::size_is_allowed(size as u32) {
         if data_rule(d) {
             if priority_rule(size, p) {
                 return phase_rule(d, p, phase);

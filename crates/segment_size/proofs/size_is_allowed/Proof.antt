@@ -3,10 +3,10 @@
 use mathlib.Core.Path.{sym}
 use mathlib.Core.List.{List, [], _∷_}
 use Prim.Native.Nat.{ℕ}
-use Rattle.retry_rules.specs.Numbers.{sizeAllowed}
-use Rattle.retry_parts.proofs.Keys.{listed, not-listed}
-use Rattle.retry_parts.proofs.numbers.size_is_allowed.Statement.{statement}
-use Rattle.retry_parts.proofs.numbers.size_is_allowed.Tie as tie
+use Rattle.segment_size.specs.Sizes.{sizeAllowed}
+use Rattle.laws.proofs.Keys.{listed, not-listed}
+use Rattle.segment_size.proofs.size_is_allowed.Statement.{statement}
+use Rattle.segment_size.proofs.size_is_allowed.Tie as tie
 
 abbrev sizes : List ℕ
 sizes = 8 ∷ 16 ∷ 32 ∷ 64 ∷ 128 ∷ 256 ∷ 512 ∷ 1024 ∷ []

@@ -8,8 +8,8 @@ use Prim.Native.Nat.{ℕ}
 use lib.Dec.{eqb}
 use types.Run.{OneOf}
 use borrow.Author.Tests.{eq-eqb, ne-eqb}
 use Rattle.laws.specs.Lists.{oneOf}
-use Rattle.retry_parts.proofs.Calls.{or-true}
+use mathlib.Core.Bool.{or-true}
 
 pub listed : (ks : List ℕ) (x : ℕ) → OneOf ks x → oneOf x ks ≡ true
 listed [] x h = absurd h
