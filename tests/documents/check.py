@@ -48,7 +48,7 @@ def missing(span, known):
     """The words of a span that are nowhere. `..` stands for any beginning or end of a word, `*` likewise."""
     for token in re.split(r"[\s(),;{}\[\]/:.·≡∷→|&<>=+*\"@$]+", span):
         token = token.strip("-'")
-        if not token or re.fullmatch(r"[\W\d]*|0x[0-9A-Fa-f]+|[NCFeXn]|NAME|PREFIX", token):
+        if not token or re.fullmatch(r"[\W\d]*|0x[0-9A-Fa-f]+|[NCFeXn]|NAME|PREFIX|X_rules|_rules", token):
             continue
         if token not in known and not (".." in span or "*" in span):
             yield token
