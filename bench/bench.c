@@ -8,6 +8,7 @@
 #include "inputs.c"
 #include "jobs.c"
 #include "retry_jobs.c"
+#include "agree.c"
 #include <stdio.h>
 #include <stdlib.h>
 #include <time.h>
@@ -35,6 +36,7 @@ static int check(void) {
       static outputs first;
       if (!rows[i].forms[f]) continue;
       memset(&out, 0xA5, sizeof out);
+      memset(&lent, 0xA5, sizeof lent);
       rows[i].forms[f]();
       if (refused) { printf("bench: %s, %s: a call was refused\n", rows[i].name, form_names[f]); return 1; }
       if (f == 0) first = out;
@@ -79,7 +81,7 @@ int main(int argc, char **argv) {
     }
     return 0;
   }
-  if (argc == 2 && !strcmp(argv[1], "check")) return check();
+  if (argc == 2 && !strcmp(argv[1], "check")) return check() | agree();
   if (argc == 2 && !strcmp(argv[1], "time")) { times(); return 0; }
   if (argc != 5 || strcmp(argv[1], "run")) { fprintf(stderr, "bench list | check | time | run ROW FORM N\n"); return 2; }
   void (*form)(void) = rows[(size_t)atoi(argv[2]) % ROWS].forms[(size_t)atoi(argv[3]) % FORMS];

@@ -105,7 +105,7 @@ static inline uint32_t control_symbol(plain_reader *r, unsigned byte) {
 }
 
 /* One step on bits 0 to 10 of a packed result. */
-static inline uint32_t step(plain_reader *r, unsigned result) {
+__attribute__((always_inline)) static inline uint32_t step(plain_reader *r, unsigned result) {
   unsigned violation = result >> 9 & 3;
   if (violation) return r->phase == DROPPING ? BUZZ_NOTHING : violated(r, violation);
   return result & 256 ? control_symbol(r, result & 255) : data_symbol(r, result & 255);
