@@ -3,12 +3,17 @@
 #include <stdio.h>
 
 static int disagreements;
-#define SAME(ours, theirs) do { if ((ours) != (theirs)) { if (!disagreements++) printf("bench: agree.c:%d: %s and %s differ\n", __LINE__, #ours, #theirs); } } while (0)
+#define SAME(ours, theirs) \
+  do { \
+    if ((ours) != (theirs)) { \
+      if (!disagreements++) printf("bench: agree.c:%d: %s and %s differ\n", __LINE__, #ours, #theirs); \
+    } \
+  } while (0)
 
 /* What a call is lent, for each side; compared whole after each call. */
 typedef struct lending {
   int32_t disparity;
-  uint32_t a, b, c, d, e;
+  uint32_t a, b, c, d, e, f;
   size_t n;
   uint16_t runs[48];
   uint8_t bytes[64], buffers[64];
@@ -21,7 +26,11 @@ static void lend(void) {
   for (size_t i = 0; i < 64; i++) o.bytes[i] = (uint8_t)random_below(256);
   p = o;
 }
-static void returned(void) { if (memcmp(&o, &p, sizeof o)) { if (!disagreements++) printf("bench: agree.c: what a call left differs\n"); } }
+static void returned(void) {
+  if (memcmp(&o, &p, sizeof o)) {
+    if (!disagreements++) printf("bench: agree.c: what a call left differs\n");
+  }
+}
 
 static uint32_t mostly(uint32_t below, uint32_t past) { return random_below(16) ? random_below(below) : random_below(past); }
 
@@ -63,7 +72,8 @@ static void agree_runs(void) {
 }
 
 static void agree_reader(void) {
-  static const uint16_t likely[20] = {256 + SDP, 256 + SPP, 256 + SLP, 256 + EGP, 256 + EBP, 256 + COM, 256 + IDL, 256 + IDL, 0x20, 0x21, 0, 1, 2, 3, 0x22, 0x23, 0x30, 5, 5, 5};
+  static const uint16_t likely[20] = {256 + SDP, 256 + SPP, 256 + SLP, 256 + EGP, 256 + EBP, 256 + COM, 256 + IDL, 256 + IDL, 0x20, 0x21,
+                                      0,         1,         2,         3,         0x22,      0x23,      0x30,      5,         5,    5};
   buzz_reader ours;
   plain_reader theirs;
   buzz_reader_fresh(8, &ours);
@@ -79,11 +89,15 @@ static void agree_reader(void) {
 
 /* Both ends of both makes over a line that loses, doubles and damages. */
 static void agree_retry(void) {
-  buzz_sender sender; buzz_receiver receiver;
-  plain_sender their_sender; plain_receiver their_receiver;
+  buzz_sender sender;
+  buzz_receiver receiver;
+  plain_sender their_sender;
+  plain_receiver their_receiver;
   uint8_t buffers[64] = {0}, their_buffers[64] = {0};
-  buzz_sender_fresh(9, 8, &sender); buzz_receiver_fresh(8, &receiver);
-  plain_sender_fresh(9, 8, &their_sender); plain_receiver_fresh(8, &their_receiver);
+  buzz_sender_fresh(9, 8, &sender);
+  buzz_receiver_fresh(8, &receiver);
+  plain_sender_fresh(9, 8, &their_sender);
+  plain_receiver_fresh(8, &their_receiver);
   for (int k = 0; k < 80; k++) {
     size_t n = mostly(8, 10) + (random_below(8) != 0);
     uint32_t channel = mostly(16, 20), number = mostly(16, 18), mark = random_below(3);
@@ -91,13 +105,22 @@ static void agree_retry(void) {
     lend();
     memcpy(segment, o.bytes, sizeof segment);
     switch (random_below(4)) {
-    case 0: SAME(buzz_sender_offer(&sender, buffers, 64, channel, mark, segment, n, &o.a), plain_sender_offer(&their_sender, their_buffers, 64, channel, mark, segment, n, &p.a)); break;
-    case 1: SAME(buzz_sender_send(&sender, buffers, 64, o.bytes, n, &o.a, &o.b, &o.c, &o.d, &o.e), plain_sender_send(&their_sender, their_buffers, 64, p.bytes, n, &p.a, &p.b, &p.c, &p.d, &p.e)); break;
-    case 2: number = random_below(3) ? their_sender.oldest : number; SAME(buzz_sender_reply(&sender, mark == 1, number), plain_sender_reply(&their_sender, mark == 1, number)); break;
+    case 0:
+      SAME(buzz_sender_offer(&sender, buffers, 64, channel, mark, segment, n, &o.a),
+           plain_sender_offer(&their_sender, their_buffers, 64, channel, mark, segment, n, &p.a));
+      break;
+    case 1:
+      SAME(buzz_sender_send(&sender, buffers, 64, o.bytes, n, &o.a, &o.b, &o.c, &o.d, &o.e),
+           plain_sender_send(&their_sender, their_buffers, 64, p.bytes, n, &p.a, &p.b, &p.c, &p.d, &p.e));
+      break;
+    case 2:
+      number = random_below(3) ? their_sender.oldest : number;
+      SAME(buzz_sender_reply(&sender, mark == 1, number), plain_sender_reply(&their_sender, mark == 1, number));
+      break;
     default:
       number = random_below(3) ? their_receiver.expected : number;
-      SAME(buzz_receiver_arrival(&receiver, number, channel, 0, segment, n, mark, o.bytes, 7 + mark, &o.a, &o.b, &o.c),
-           plain_receiver_arrival(&their_receiver, number, channel, 0, segment, n, mark, p.bytes, 7 + mark, &p.a, &p.b, &p.c));
+      SAME(arrival(&receiver, number, channel, mark, segment, n, mark, o.bytes, 7 + mark, &o.a, &o.b, &o.c, &o.d, &o.e, &o.f),
+           plain_receiver_arrival(&their_receiver, number, channel, mark, segment, n, mark, p.bytes, 7 + mark, &p.a, &p.b, &p.c, &p.d, &p.e, &p.f));
     }
     returned();
     SAME(memcmp(buffers, their_buffers, 64), 0);
@@ -107,7 +130,13 @@ static void agree_retry(void) {
 }
 
 static int agree(void) {
-  for (int k = 0; k < 20000; k++) { agree_characters(); agree_runs(); }
-  for (int k = 0; k < 2000; k++) { agree_reader(); agree_retry(); }
+  for (int k = 0; k < 20000; k++) {
+    agree_characters();
+    agree_runs();
+  }
+  for (int k = 0; k < 2000; k++) {
+    agree_reader();
+    agree_retry();
+  }
   return disagreements != 0;
 }

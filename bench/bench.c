@@ -35,12 +35,17 @@ static int check(void) {
     for (size_t f = 0; f < FORMS; f++) {
       static outputs first;
       if (!rows[i].forms[f]) continue;
-      memset(&out, 0xA5, sizeof out);
-      memset(&lent, 0xA5, sizeof lent);
+      clear();
       rows[i].forms[f]();
-      if (refused) { printf("bench: %s, %s: a call was refused\n", rows[i].name, form_names[f]); return 1; }
+      if (refused) {
+        printf("bench: %s, %s: a call was refused\n", rows[i].name, form_names[f]);
+        return 1;
+      }
       if (f == 0) first = out;
-      else if (rows[i].forms[0] && memcmp(&first, &out, sizeof out)) { printf("bench: %s: %s differs from ours\n", rows[i].name, form_names[f]); bad = 1; }
+      else if (rows[i].forms[0] && memcmp(&first, &out, sizeof out)) {
+        printf("bench: %s: %s differs from ours\n", rows[i].name, form_names[f]);
+        bad = 1;
+      }
     }
   return bad;
 }
@@ -82,8 +87,14 @@ int main(int argc, char **argv) {
     return 0;
   }
   if (argc == 2 && !strcmp(argv[1], "check")) return check() | agree();
-  if (argc == 2 && !strcmp(argv[1], "time")) { times(); return 0; }
-  if (argc != 5 || strcmp(argv[1], "run")) { fprintf(stderr, "bench list | check | time | run ROW FORM N\n"); return 2; }
+  if (argc == 2 && !strcmp(argv[1], "time")) {
+    times();
+    return 0;
+  }
+  if (argc != 5 || strcmp(argv[1], "run")) {
+    fprintf(stderr, "bench list | check | time | run ROW FORM N\n");
+    return 2;
+  }
   void (*form)(void) = rows[(size_t)atoi(argv[2]) % ROWS].forms[(size_t)atoi(argv[3]) % FORMS];
   for (long n = atol(argv[4]); n > 0; n--) form();
   return refused;

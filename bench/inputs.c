@@ -2,11 +2,11 @@
 #include "plain/plain.h"
 #include <string.h>
 
-#define RUN 1024       /* characters of one call of the bulk jobs */
-#define LINE 8192      /* characters of the capture */
-#define CAPTURE 10240  /* its bytes */
-#define LONG 65536     /* bytes of the long packet */
-#define SIZE 64        /* S of the line's reader */
+#define RUN 1024      /* characters of one call of the bulk jobs */
+#define LINE 8192     /* characters of the capture */
+#define CAPTURE 10240 /* its bytes */
+#define LONG 65536    /* bytes of the long packet */
+#define SIZE 64       /* S of the line's reader */
 
 static uint8_t bytes[LONG];
 static uint16_t line[LINE];    /* as it is received */
@@ -15,14 +15,30 @@ static uint16_t results[LINE];
 static uint8_t capture[CAPTURE];
 
 static uint32_t seed = 1;
-static uint32_t random_below(uint32_t n) { seed = seed * 1664525 + 1013904223; return (seed >> 16) % n; }
+static uint32_t random_below(uint32_t n) {
+  seed = seed * 1664525 + 1013904223;
+  return (seed >> 16) % n;
+}
 
 static size_t length;
-static void symbol(unsigned s) { if (length < LINE) symbols[length++] = (uint16_t)s; }
+static void symbol(unsigned s) {
+  if (length < LINE) symbols[length++] = (uint16_t)s;
+}
 static void control(unsigned byte) { symbol(256 + byte); }
 
-static void idles(void) { control(COM); control(IDL); control(IDL); control(IDL); }
-static void reply(void) { unsigned t = 0x20 + random_below(2), n = random_below(16); control(SLP); symbol(t); symbol(n); symbol(t ^ n); }
+static void idles(void) {
+  control(COM);
+  control(IDL);
+  control(IDL);
+  control(IDL);
+}
+static void reply(void) {
+  unsigned t = 0x20 + random_below(2), n = random_below(16);
+  control(SLP);
+  symbol(t);
+  symbol(n);
+  symbol(t ^ n);
+}
 
 static void ending(unsigned opening, uint16_t r) {
   control(random_below(8) ? EGP : EBP);
@@ -36,7 +52,11 @@ static void priority(void) {
   uint16_t r = 0xFFFF;
   control(SPP);
   symbol(opening);
-  while (n--) { unsigned b = random_below(256); symbol(b); r = crc_step(r, (uint8_t)b); }
+  while (n--) {
+    unsigned b = random_below(256);
+    symbol(b);
+    r = crc_step(r, (uint8_t)b);
+  }
   ending(opening, r);
 }
 

@@ -50,9 +50,13 @@ CALL uint32_t plain_pack(const uint16_t *characters, size_t count, uint8_t *capt
 
 CALL size_t plain_unpack_trusting(const uint8_t *capture, size_t length, uint16_t *characters) { return unpack(capture, length, characters); }
 
+static inline int is_capture(const uint8_t *capture, size_t length) {
+  if (length > MOST_BYTES || length % 5 == 1) return 0;
+  return length == 0 || capture[length - 1] % (1u << (8 * length % 10)) == 0;
+}
+
 CALL uint32_t plain_unpack(const uint8_t *capture, size_t length, uint16_t *characters, size_t room, size_t *count) {
-  if (length > MOST_BYTES || length % 5 == 1) return BUZZ_BAD_CAPTURE;
-  if (length && capture[length - 1] % (1u << (8 * length % 10))) return BUZZ_BAD_CAPTURE;
+  if (!is_capture(capture, length)) return BUZZ_BAD_CAPTURE;
   if (room < 8 * length / 10) return BUZZ_SHORT_OUTPUT;
   *count = unpack(capture, length, characters);
   return BUZZ_OK;

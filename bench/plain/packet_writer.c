@@ -13,11 +13,12 @@ void plain_crc_table(void) {
 
 static inline uint16_t crc_step(uint16_t r, uint8_t byte) { return (uint16_t)(r >> 8 ^ crc_of_byte[(r ^ byte) & 255]); }
 
-/* The register over a run; the check bytes are its complement, low byte first. */
-CALL uint16_t plain_crc(const uint8_t *bytes, size_t length) {
+/* The check bytes are the register's complement, low byte first. */
+CALL void plain_crc16(const uint8_t *bytes, size_t length, uint8_t check[2]) {
   uint16_t r = 0xFFFF;
   for (size_t i = 0; i < length; i++) r = crc_step(r, bytes[i]);
-  return r;
+  check[0] = ~r & 255;
+  check[1] = ~r >> 8 & 255;
 }
 
 static inline unsigned put(uint16_t *out, unsigned plus, unsigned symbol) {
@@ -27,7 +28,8 @@ static inline unsigned put(uint16_t *out, unsigned plus, unsigned symbol) {
 }
 
 /* The CRC and the characters in one pass. */
-static inline size_t put_packet(unsigned start, unsigned opening, const uint8_t *restrict bytes, size_t length, unsigned bad, int32_t *disparity, uint16_t *restrict out) {
+static inline size_t put_packet(unsigned start, unsigned opening, const uint8_t *restrict bytes, size_t length, unsigned bad, int32_t *disparity,
+                                uint16_t *restrict out) {
   unsigned p = *disparity > 0;
   uint16_t r = 0xFFFF;
   p = put(out++, p, start);
@@ -49,7 +51,8 @@ CALL size_t plain_write_data_trusting(uint32_t channel, const uint8_t *bytes, si
   return put_packet(0x15C, channel, bytes, length, bad, disparity, characters);
 }
 
-CALL uint32_t plain_write_data(uint32_t channel, const uint8_t *bytes, size_t length, uint32_t bad, int32_t *disparity, uint16_t *characters, size_t room, size_t *count) {
+CALL uint32_t plain_write_data(uint32_t channel, const uint8_t *bytes, size_t length, uint32_t bad, int32_t *disparity, uint16_t *characters,
+                               size_t room, size_t *count) {
   if (!is_disparity(*disparity) || channel > 255) return BUZZ_OUT_OF_RANGE;
   if (length == 0) return BUZZ_NO_BYTES;
   if (room < 6 || room - 6 < length) return BUZZ_SHORT_OUTPUT;

@@ -29,8 +29,9 @@ uint32_t plain_unpack(const uint8_t *capture, size_t length, uint16_t *character
 size_t plain_unpack_trusting(const uint8_t *capture, size_t length, uint16_t *characters);
 
 /* CRC-16 and the packet writer */
-uint16_t plain_crc(const uint8_t *bytes, size_t length);
-uint32_t plain_write_data(uint32_t channel, const uint8_t *bytes, size_t length, uint32_t bad, int32_t *disparity, uint16_t *characters, size_t room, size_t *count);
+void plain_crc16(const uint8_t *bytes, size_t length, uint8_t check[2]);
+uint32_t plain_write_data(uint32_t channel, const uint8_t *bytes, size_t length, uint32_t bad, int32_t *disparity, uint16_t *characters, size_t room,
+                          size_t *count);
 size_t plain_write_data_trusting(uint32_t channel, const uint8_t *bytes, size_t length, uint32_t bad, int32_t *disparity, uint16_t *characters);
 
 /* the packet reader */
@@ -41,37 +42,48 @@ typedef struct plain_reader {
   uint8_t phase, first, second; /* what is due, and what a begun sequence carries */
 } plain_reader;
 
-/* An event that is not nothing, and the index of the character that gave it. */
-typedef struct event {
-  uint32_t place;
-  uint8_t event, value, number, unused;
-} event;
-
 uint32_t plain_reader_fresh(uint32_t size, plain_reader *reader);
-uint32_t plain_reader_step(plain_reader *reader, uint32_t violation, uint32_t byte, uint32_t control, uint32_t *event, uint32_t *value, uint32_t *number);
-void plain_reader_step_trusting(plain_reader *reader, uint32_t violation, uint32_t byte, uint32_t control, uint32_t *event, uint32_t *value, uint32_t *number);
-/* A whole run of packed results at once: the events other than nothing, and how many. 1: the state, a result that is none; 6: room for fewer events than results. */
-uint32_t plain_reader_run(plain_reader *reader, const uint16_t *results, size_t count, event *events, size_t room, size_t *event_count);
-size_t plain_reader_run_trusting(plain_reader *reader, const uint16_t *results, size_t count, event *events);
+uint32_t plain_reader_step(plain_reader *reader, uint32_t violation, uint32_t byte, uint32_t control, uint32_t *event, uint32_t *value,
+                           uint32_t *number);
+void plain_reader_step_trusting(plain_reader *reader, uint32_t violation, uint32_t byte, uint32_t control, uint32_t *event, uint32_t *value,
+                                uint32_t *number);
+/* A whole capture: an event for each character, 65,536 times the event, 256 times the number, and the value. 8; 1: the state, no disparity; 6. */
+uint32_t plain_read_capture(const uint8_t *capture, size_t length, plain_reader *reader, int32_t *disparity, uint32_t *events, size_t room,
+                            size_t *count);
+size_t plain_read_capture_trusting(const uint8_t *capture, size_t length, plain_reader *reader, int32_t *disparity, uint32_t *events);
 
 /* both ends of the retry */
 typedef struct plain_sender {
   uint8_t oldest, stored, outstanding, point, released, expiries, link;
   uint16_t timer, columns, size;
-  struct { uint16_t length; uint8_t channel, bad; } slots[8];
+  struct {
+    uint16_t length;
+    uint8_t channel, bad;
+  } slots[8];
 } plain_sender;
 
-typedef struct plain_receiver { uint8_t expected, received; uint16_t size; } plain_receiver;
+typedef struct plain_receiver {
+  uint8_t expected, received;
+  uint16_t size;
+} plain_receiver;
 
 uint32_t plain_sender_fresh(uint32_t columns, uint32_t size, plain_sender *sender);
-uint32_t plain_sender_offer(plain_sender *sender, uint8_t *buffers, size_t buffers_length, uint32_t channel, uint32_t bad, const uint8_t *bytes, size_t length, uint32_t *number);
-void plain_sender_offer_trusting(plain_sender *sender, uint8_t *buffers, uint32_t channel, uint32_t bad, const uint8_t *bytes, size_t length, uint32_t *number);
-uint32_t plain_sender_send(plain_sender *sender, const uint8_t *buffers, size_t buffers_length, uint8_t *output, size_t output_length, uint32_t *sent, uint32_t *number, uint32_t *channel, uint32_t *bad, uint32_t *length);
-void plain_sender_send_trusting(plain_sender *sender, const uint8_t *buffers, uint8_t *output, uint32_t *sent, uint32_t *number, uint32_t *channel, uint32_t *bad, uint32_t *length);
+uint32_t plain_sender_offer(plain_sender *sender, uint8_t *buffers, size_t buffers_length, uint32_t channel, uint32_t bad, const uint8_t *bytes,
+                            size_t length, uint32_t *number);
+void plain_sender_offer_trusting(plain_sender *sender, uint8_t *buffers, uint32_t channel, uint32_t bad, const uint8_t *bytes, size_t length,
+                                 uint32_t *number);
+uint32_t plain_sender_send(plain_sender *sender, const uint8_t *buffers, size_t buffers_length, uint8_t *output, size_t output_length, uint32_t *sent,
+                           uint32_t *number, uint32_t *channel, uint32_t *bad, uint32_t *length);
+void plain_sender_send_trusting(plain_sender *sender, const uint8_t *buffers, uint8_t *output, uint32_t *sent, uint32_t *number, uint32_t *channel,
+                                uint32_t *bad, uint32_t *length);
 uint32_t plain_sender_reply(plain_sender *sender, uint32_t nack, uint32_t number);
 void plain_sender_reply_trusting(plain_sender *sender, uint32_t nack, uint32_t number);
 uint32_t plain_receiver_fresh(uint32_t size, plain_receiver *receiver);
-uint32_t plain_receiver_arrival(plain_receiver *receiver, uint32_t number, uint32_t channel, uint32_t bad, const uint8_t *bytes, size_t length, uint32_t room, uint8_t *output, size_t output_length, uint32_t *delivered, uint32_t *nack, uint32_t *reply);
-void plain_receiver_arrival_trusting(plain_receiver *receiver, uint32_t number, const uint8_t *bytes, size_t length, uint32_t room, uint8_t *output, uint32_t *delivered, uint32_t *nack, uint32_t *reply);
+uint32_t plain_receiver_arrival(plain_receiver *receiver, uint32_t number, uint32_t channel, uint32_t bad, const uint8_t *bytes, size_t length,
+                                uint32_t room, uint8_t *output, size_t output_length, uint32_t *delivered, uint32_t *delivered_channel,
+                                uint32_t *delivered_bad, uint32_t *delivered_length, uint32_t *nack, uint32_t *reply);
+void plain_receiver_arrival_trusting(plain_receiver *receiver, uint32_t number, uint32_t channel, uint32_t bad, const uint8_t *bytes, size_t length,
+                                     uint32_t room, uint8_t *output, uint32_t *delivered, uint32_t *delivered_channel, uint32_t *delivered_bad,
+                                     uint32_t *delivered_length, uint32_t *nack, uint32_t *reply);
 
 #endif

@@ -38,11 +38,13 @@ static inline void store(plain_sender *s, uint8_t *buffers, uint32_t channel, ui
   *number = k & 15;
 }
 
-CALL void plain_sender_offer_trusting(plain_sender *sender, uint8_t *buffers, uint32_t channel, uint32_t bad, const uint8_t *bytes, size_t length, uint32_t *number) {
+CALL void plain_sender_offer_trusting(plain_sender *sender, uint8_t *buffers, uint32_t channel, uint32_t bad, const uint8_t *bytes, size_t length,
+                                      uint32_t *number) {
   store(sender, buffers, channel, bad, bytes, length, number);
 }
 
-CALL uint32_t plain_sender_offer(plain_sender *sender, uint8_t *buffers, size_t buffers_length, uint32_t channel, uint32_t bad, const uint8_t *bytes, size_t length, uint32_t *number) {
+CALL uint32_t plain_sender_offer(plain_sender *sender, uint8_t *buffers, size_t buffers_length, uint32_t channel, uint32_t bad, const uint8_t *bytes,
+                                 size_t length, uint32_t *number) {
   if (sender->link == DOWN) return BUZZ_LINK_DOWN;
   if (!sender_is_ruled(sender) || buffers_length != 8u * sender->size || channel > 15) return BUZZ_OUT_OF_RANGE;
   if (length > sender->size) return BUZZ_SEGMENT_SIZE;
@@ -52,7 +54,8 @@ CALL uint32_t plain_sender_offer(plain_sender *sender, uint8_t *buffers, size_t 
   return BUZZ_OK;
 }
 
-static inline void take(plain_sender *s, const uint8_t *buffers, uint8_t *output, uint32_t *sent, uint32_t *number, uint32_t *channel, uint32_t *bad, uint32_t *length) {
+static inline void take(plain_sender *s, const uint8_t *buffers, uint8_t *output, uint32_t *sent, uint32_t *number, uint32_t *channel, uint32_t *bad,
+                        uint32_t *length) {
   if (s->point == s->stored) {
     *sent = *number = *channel = *bad = *length = 0;
     return;
@@ -67,11 +70,13 @@ static inline void take(plain_sender *s, const uint8_t *buffers, uint8_t *output
   *length = s->slots[k & 7].length;
 }
 
-CALL void plain_sender_send_trusting(plain_sender *sender, const uint8_t *buffers, uint8_t *output, uint32_t *sent, uint32_t *number, uint32_t *channel, uint32_t *bad, uint32_t *length) {
+CALL void plain_sender_send_trusting(plain_sender *sender, const uint8_t *buffers, uint8_t *output, uint32_t *sent, uint32_t *number,
+                                     uint32_t *channel, uint32_t *bad, uint32_t *length) {
   take(sender, buffers, output, sent, number, channel, bad, length);
 }
 
-CALL uint32_t plain_sender_send(plain_sender *sender, const uint8_t *buffers, size_t buffers_length, uint8_t *output, size_t output_length, uint32_t *sent, uint32_t *number, uint32_t *channel, uint32_t *bad, uint32_t *length) {
+CALL uint32_t plain_sender_send(plain_sender *sender, const uint8_t *buffers, size_t buffers_length, uint8_t *output, size_t output_length,
+                                uint32_t *sent, uint32_t *number, uint32_t *channel, uint32_t *bad, uint32_t *length) {
   if (sender->link == DOWN) return BUZZ_LINK_DOWN;
   if (!sender_is_ruled(sender) || buffers_length != 8u * sender->size) return BUZZ_OUT_OF_RANGE;
   if (sender->point < sender->stored && output_length < sender->slots[(sender->oldest + sender->point) & 7].length) return BUZZ_SHORT_OUTPUT;
@@ -108,30 +113,38 @@ CALL uint32_t plain_receiver_fresh(uint32_t size, plain_receiver *receiver) {
   return BUZZ_OK;
 }
 
-static inline void receive(plain_receiver *r, uint32_t number, const uint8_t *bytes, size_t length, uint32_t room, uint8_t *output, uint32_t *delivered, uint32_t *nack, uint32_t *reply) {
-  *delivered = *nack = 0;
+static inline void receive(plain_receiver *r, uint32_t number, uint32_t channel, uint32_t bad, const uint8_t *bytes, size_t length, uint32_t room,
+                           uint8_t *output, uint32_t *delivered, uint32_t *delivered_channel, uint32_t *delivered_bad, uint32_t *delivered_length,
+                           uint32_t *nack, uint32_t *reply) {
+  *delivered = *delivered_channel = *delivered_bad = *delivered_length = *nack = 0;
   *reply = number;
   if (number == r->expected && room) {
     memcpy(output, bytes, length);
     r->expected = (r->expected + 1) & 15;
     if (r->received < 8) r->received++;
     *delivered = 1;
+    *delivered_channel = channel;
+    *delivered_bad = bad != 0;
+    *delivered_length = (uint32_t)length;
   } else if (number == r->expected || !among_last(r->received, r->expected, number)) {
     *nack = 1;
     *reply = r->expected;
   }
 }
 
-CALL void plain_receiver_arrival_trusting(plain_receiver *receiver, uint32_t number, const uint8_t *bytes, size_t length, uint32_t room, uint8_t *output, uint32_t *delivered, uint32_t *nack, uint32_t *reply) {
-  receive(receiver, number, bytes, length, room, output, delivered, nack, reply);
+CALL void plain_receiver_arrival_trusting(plain_receiver *receiver, uint32_t number, uint32_t channel, uint32_t bad, const uint8_t *bytes,
+                                          size_t length, uint32_t room, uint8_t *output, uint32_t *delivered, uint32_t *delivered_channel,
+                                          uint32_t *delivered_bad, uint32_t *delivered_length, uint32_t *nack, uint32_t *reply) {
+  receive(receiver, number, channel, bad, bytes, length, room, output, delivered, delivered_channel, delivered_bad, delivered_length, nack, reply);
 }
 
-CALL uint32_t plain_receiver_arrival(plain_receiver *receiver, uint32_t number, uint32_t channel, uint32_t bad, const uint8_t *bytes, size_t length, uint32_t room, uint8_t *output, size_t output_length, uint32_t *delivered, uint32_t *nack, uint32_t *reply) {
-  (void)bad; /* the caller keeps it with what is delivered, as with ours */
+CALL uint32_t plain_receiver_arrival(plain_receiver *receiver, uint32_t number, uint32_t channel, uint32_t bad, const uint8_t *bytes, size_t length,
+                                     uint32_t room, uint8_t *output, size_t output_length, uint32_t *delivered, uint32_t *delivered_channel,
+                                     uint32_t *delivered_bad, uint32_t *delivered_length, uint32_t *nack, uint32_t *reply) {
   if (!is_size(receiver->size) || !count_is_ruled(receiver->expected, receiver->received) || number > 15 || channel > 15) return BUZZ_OUT_OF_RANGE;
   if (length > receiver->size) return BUZZ_SEGMENT_SIZE;
   if (length == 0) return BUZZ_NO_BYTES;
   if (number == receiver->expected && room && output_length < length) return BUZZ_SHORT_OUTPUT;
-  receive(receiver, number, bytes, length, room, output, delivered, nack, reply);
+  receive(receiver, number, channel, bad, bytes, length, room, output, delivered, delivered_channel, delivered_bad, delivered_length, nack, reply);
   return BUZZ_OK;
 }
