@@ -39,7 +39,8 @@ static void a_run(void) {
   begin("buzz_read_characters");
   with("count", (int64_t)n), with("disparity", d0), with("results_count", (int64_t)room);
   lent *c = lend(run, 2 * n), *d = lend(&d0, sizeof d0), *r = lend(NULL, 2 * room);
-  judge(buzz_read_characters(A(uint16_t, c), n, A(int32_t, d), A(uint16_t, r), room), ref_read_characters(R(uint16_t, c), n, R(int32_t, d), R(uint16_t, r), room));
+  judge(buzz_read_characters(A(uint16_t, c), n, A(int32_t, d), A(uint16_t, r), room),
+        ref_read_characters(R(uint16_t, c), n, R(int32_t, d), R(uint16_t, r), room));
   give_back();
 }
 
@@ -144,8 +145,8 @@ static void a_data(void) {
 
 static void a_priority(void) {
   uint32_t size = size_of_segment(), channel = number_to(15), segment = number_to(15), bad = mark();
-  size_t most = size > 1024 ? 1024 : size, n = one_in(6) ? most + below(3) : one_in(20) ? below((uint32_t)most + 1) : below(most < 20 ? (uint32_t)most + 1 : 20);
-  size_t room = room_for(n + 6);
+  uint32_t most = size > 1024 ? 1024 : size;
+  size_t n = one_in(6) ? most + below(3) : one_in(20) ? below(most + 1) : below(most < 20 ? most + 1 : 20), room = room_for(n + 6);
   int32_t d0 = disparity();
   fill_payload(n);
   begin("buzz_write_priority");

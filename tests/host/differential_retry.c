@@ -8,7 +8,7 @@ static uint8_t payload[1100];
 static struct sending {
   uint8_t bytes[BUZZ_SENDER_BYTES], buffers[8 * 1024];
   ref_sender state;
-  uint32_t deaf; /* how rarely the oldest is acknowledged */
+  uint32_t deaf; /* how rarely the oldest's number is answered */
   int made, strange; /* strange: identified, so what released places hold is not known */
 } sendings[ENDS];
 
@@ -37,7 +37,7 @@ static void a_sender_fresh(struct sending *s) {
   judge(buzz_sender_fresh(t, size, A(buzz_sender, l)), answer);
   if (answer) { give_back(); return; }
   s->made = 1;
-  s->deaf = one_in(3) ? 3 : one_in(2) ? 20 : 200;
+  s->deaf = one_in(3) ? 8 : one_in(8) ? 200 : 1;
   for (size_t i = 0; i < sizeof s->buffers; i++) s->buffers[i] = (uint8_t)(i * 7 + t);
   memset(&old, 0, sizeof old);
   sender_after(s, &old, l, NULL);
@@ -68,8 +68,8 @@ static void an_offer(struct sending *s) {
   ref_sender old = s->state;
   for (size_t i = 0; i < n; i++) payload[i] = (uint8_t)any32();
   begin("buzz_sender_offer");
-  with("size", size), with("stored", s->state.stored), with("down", s->state.down), with("buffers_length", (int64_t)run), with("channel", channel), with("bad", bad);
-  with("length", (int64_t)n);
+  with("size", size), with("stored", s->state.stored), with("down", s->state.down), with("buffers_length", (int64_t)run);
+  with("channel", channel), with("bad", bad), with("length", (int64_t)n);
   lent *l = lend_state(s->bytes, BUZZ_SENDER_BYTES), *b = lend(s->buffers, run), *p = lend(payload, n), *number = lend(NULL, 4);
   judge(buzz_sender_offer(A(buzz_sender, l), b->archive, run, channel, bad, p->archive, n, A(uint32_t, number)),
         ref_sender_offer(&s->state, b->reference, run, channel, bad, p->reference, n, R(uint32_t, number)));
@@ -93,13 +93,12 @@ static void a_send(struct sending *s) {
 
 static void a_reply(struct sending *s) {
   ref_sender old = s->state;
-  uint32_t nack = one_in(3) ? mark() | 1 : 0, number = number_to(15);
-  if (!nack && !one_in(s->deaf)) number = s->state.oldest;
-  else if (one_in(2)) number = (s->state.oldest + 16 - below(11)) % 16;
-  else if (one_in(2)) number = (s->state.oldest + below(9)) % 16;
-  if (s->deaf > 10 && number == s->state.oldest && !one_in(s->deaf)) number = (number + 1) % 16;
+  uint32_t nack = one_in(3) ? mark() | 1 : 0, number = number_to(15), oldest = s->state.oldest;
+  if (one_in(2)) number = (oldest + (one_in(2) ? 16 - below(11) : below(9))) % 16;
+  if (!one_in(4)) number = oldest, nack = one_in(8);
+  if (number == oldest && !one_in(s->deaf)) number = (oldest + 1 + below(15)) % 16;
   begin("buzz_sender_reply");
-  with("oldest", s->state.oldest), with("outstanding", s->state.outstanding), with("released", s->state.released), with("nack", nack), with("number", number);
+  with("oldest", oldest), with("outstanding", s->state.outstanding), with("released", s->state.released), with("nack", nack), with("number", number);
   lent *l = lend_state(s->bytes, BUZZ_SENDER_BYTES);
   judge(buzz_sender_reply(A(buzz_sender, l), nack, number), ref_sender_reply(&s->state, nack, number));
   sender_after(s, &old, l, NULL);
@@ -196,9 +195,12 @@ static void an_arrival(struct receiving *r) {
   begin("buzz_receiver_arrival");
   with("size", size), with("expected", old.expected), with("received", old.received), with("number", number), with("channel", channel), with("bad", bad);
   with("length", (int64_t)n), with("room", host), with("output_length", (int64_t)room);
-  lent *l = lend_state(r->bytes, BUZZ_RECEIVER_BYTES), *p = lend(payload, n), *o = lend(NULL, room), *d = lend(NULL, 4), *k = lend(NULL, 4), *reply = lend(NULL, 4);
-  judge(buzz_receiver_arrival(A(buzz_receiver, l), number, channel, bad, p->archive, n, host, o->archive, room, A(uint32_t, d), A(uint32_t, k), A(uint32_t, reply)),
-        ref_receiver_arrival(&r->state, number, channel, bad, p->reference, n, host, o->reference, room, R(uint32_t, d), R(uint32_t, k), R(uint32_t, reply)));
+  lent *l = lend_state(r->bytes, BUZZ_RECEIVER_BYTES), *p = lend(payload, n), *o = lend(NULL, room);
+  lent *d = lend(NULL, 4), *k = lend(NULL, 4), *reply = lend(NULL, 4);
+  judge(buzz_receiver_arrival(A(buzz_receiver, l), number, channel, bad, p->archive, n, host, o->archive, room, A(uint32_t, d), A(uint32_t, k),
+                              A(uint32_t, reply)),
+        ref_receiver_arrival(&r->state, number, channel, bad, p->reference, n, host, o->reference, room, R(uint32_t, d), R(uint32_t, k),
+                             R(uint32_t, reply)));
   receiver_after(r, &old, l);
 }
 
@@ -207,7 +209,8 @@ static void a_damaged_arrival(struct receiving *r) {
   begin("buzz_receiver_damaged_arrival");
   with("expected", old.expected);
   lent *l = lend_state(r->bytes, BUZZ_RECEIVER_BYTES), *k = lend(NULL, 4), *reply = lend(NULL, 4);
-  judge(buzz_receiver_damaged_arrival(A(buzz_receiver, l), A(uint32_t, k), A(uint32_t, reply)), ref_receiver_damaged_arrival(&r->state, R(uint32_t, k), R(uint32_t, reply)));
+  judge(buzz_receiver_damaged_arrival(A(buzz_receiver, l), A(uint32_t, k), A(uint32_t, reply)),
+        ref_receiver_damaged_arrival(&r->state, R(uint32_t, k), R(uint32_t, reply)));
   receiver_after(r, &old, l);
 }
 

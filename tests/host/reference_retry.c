@@ -75,7 +75,7 @@ uint32_t ref_sender_reply(ref_sender *sender, uint32_t nack, uint32_t number) {
     release(sender);
   } else if (WRONG == 24 && (number + 16 - sender->oldest) % 16 < sender->outstanding) {
     for (uint32_t n = (number + 16 - sender->oldest) % 16 + 1; n > 0; n--) release(sender);
-  } else if (!(back >= 1 && back <= sender->released)) {
+  } else if (back > sender->released) {
     sender->point = 0;
   }
   return 0;

@@ -1,11 +1,12 @@
 /* Both retry ends of the archive over two lines that keep order, lose and damage, through the whole stack: offers, segments as characters, the reader,
  * the receiver, replies as characters and back.   soak [EVENTS [SEED]]
  *
- * The model. A line is a queue of items: a segment or a reply, as the characters that were written. An item may be lost as it goes onto the line, or some
- * of its characters may be turned or lost. At its end the characters are read and stepped, and the item arrives as document 01 has it: valid, if the packet
- * ended and is what was sent; damaged, if the reader reported a violation while it was read; else not at all. Document 01's lines lose and mark damage:
- * damage that no check sees (an end or a reply that is not what was sent) is outside the model, arrives as damaged here, and is counted. An item that was
- * not hit can still arrive damaged, or not at all, since a reader may be dropping, inside a cut packet or at another disparity; for the line this is damage too.
+ * The model. A line is a queue of items: a segment or a reply, as the characters that were written. An item may be lost as it goes onto the line, or
+ * some of its characters may be turned or lost. At its end the characters are read and stepped, and the item arrives as document 01 has it: valid, if the
+ * packet ended and is what was sent; damaged, if the reader reported a violation while it was read; else not at all. Document 01's lines lose and mark
+ * damage: damage that no check sees (an end or a reply that is not what was sent) is outside the model, arrives as damaged here, and is counted. An item
+ * that was not hit can still arrive damaged, or not at all, since a reader may be dropping, inside a cut packet or at another disparity; for the line
+ * this is damage too.
  *
  * What is checked is seen from outside, counted from what crosses the calls: delivered is what was accepted, in order, each once; an offer is refused
  * exactly at eight stored; a sent segment is a stored one with its content; the link falls exactly at the third expiry since the last clearing; and
@@ -171,7 +172,7 @@ static void arrive(const struct item *it, const struct heard *h, int faults, uin
   if (done) {
     const struct segment *s = &accepted_ones[delivered % KEPT];
     if (delivered == accepted || it->index != delivered || length < h->length) fail("delivered out of order, or twice, or too much");
-    if (s->length != h->length || s->channel != h->channel || s->bad != h->bad || memcmp(s->bytes, output, h->length) != 0) fail("another content is delivered");
+    if (s->length != h->length || s->channel != h->channel || s->bad != h->bad || memcmp(s->bytes, output, s->length) != 0) fail("another content arrives");
     delivered++, sum_delivered++;
   }
   answer(nack, reply, faults);
