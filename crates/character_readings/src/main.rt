@@ -63,7 +63,7 @@ fn print_result(result: Decoded) {
 fn print_reading(c: u32, d: i32) {
     io::print_decimal(1, c as u64);
     space();
-    print_result(character::reader::read(c, d));
+    print_result(character_reader::read(c, d));
     new_line();
 }
 
@@ -103,7 +103,7 @@ fn print_end(end: RunRead) {
 fn print_results(results: &[u16; 1024]) {
     let mut i = 0usize;
     while i < 1024 {
-        print_result(character::reader::unpack_result(results[i]));
+        print_result(character_reader::unpack_result(results[i]));
         new_line();
         i += 1;
     }
@@ -113,7 +113,7 @@ fn print_results(results: &[u16; 1024]) {
 fn print_long_run() {
     let cs = all_characters();
     let mut results = [0u16; 1024];
-    print_end(character::reader::read_run(&cs, -1, &mut results));
+    print_end(character_reader::read_run(&cs, -1, &mut results));
     print_results(&results);
 }
 
@@ -124,7 +124,7 @@ fn wide(n: u16) -> u64 {
 // A run into an output of three numbers, which stood at 7 8 9; and what the output holds then.
 fn print_short_run(cs: &[u16], d: i32) {
     let mut out = [7u16, 8, 9];
-    print_end(character::reader::read_run(cs, d, &mut out));
+    print_end(character_reader::read_run(cs, d, &mut out));
     io::print_decimal(1, wide(out[0]));
     space();
     io::print_decimal(1, wide(out[1]));

@@ -38,7 +38,7 @@ fn print_name(s: Symbol) {
 fn find(s: Symbol, disparity: i32) -> u16 {
     let mut c = 0u16;
     while c < 1023 {
-        if let Decoded::Clean(r, _) = character::reader::read(c as u32, disparity) {
+        if let Decoded::Clean(r, _) = character_reader::read(c as u32, disparity) {
             if r.byte == s.byte && r.control == s.control {
                 return c;
             }
@@ -50,7 +50,7 @@ fn find(s: Symbol, disparity: i32) -> u16 {
 
 // The two blocks of a symbol's code group at a disparity. K28.7 is not written, and is found by reading.
 fn print_column(s: Symbol, disparity: i32) {
-    let c = match character::writer::write(s, disparity) {
+    let c = match character_writer::write(s, disparity) {
         Encoded::Written {
             character,
             disparity: _,
@@ -70,7 +70,7 @@ fn print_refusal(number: u8) {
 
 // What was written at a disparity, read there again: the name, where it is clean with the closing disparity that the writer gave.
 fn print_back(s: Symbol, disparity: i32) {
-    match character::writer::write(s, disparity) {
+    match character_writer::write(s, disparity) {
         Encoded::Written {
             character,
             disparity: closing,
@@ -80,7 +80,7 @@ fn print_back(s: Symbol, disparity: i32) {
 }
 
 fn print_read(c: u16, disparity: i32, closing: i32) {
-    match character::reader::read(c as u32, disparity) {
+    match character_reader::read(c as u32, disparity) {
         Decoded::Clean(s, after) => {
             if after == closing {
                 print_name(s);
@@ -144,7 +144,7 @@ fn print_controls() {
 }
 
 fn print_asked(s: Symbol, disparity: i32) {
-    match character::writer::write(s, disparity) {
+    match character_writer::write(s, disparity) {
         Encoded::Written {
             character: _,
             disparity: _,
