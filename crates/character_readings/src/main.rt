@@ -1,27 +1,11 @@
 // Reads each of 1,024 characters at both disparities, one at a time; then all of them as one run from -1; then what is out of range.
+use character_print::new_line;
+use character_print::print_name;
+use character_print::print_refusal;
+use character_print::space;
 use character_rules::Decoded;
 use character_rules::RunRead;
 use symbol::Symbol;
-
-fn space() {
-    io::write_all(1, &[b' ']);
-}
-
-fn new_line() {
-    io::write_all(1, &[b'\n']);
-}
-
-// Dx.y or Kx.y
-fn print_name(s: Symbol) {
-    if s.control {
-        io::write_all(1, &[b'K']);
-    } else {
-        io::write_all(1, &[b'D']);
-    }
-    io::print_decimal(1, (s.byte % 32) as u64);
-    io::write_all(1, &[b'.']);
-    io::print_decimal(1, (s.byte / 32) as u64);
-}
 
 fn print_disparity(d: i32) {
     if d == 1 {
@@ -53,10 +37,7 @@ fn print_result(result: Decoded) {
             io::write_all(1, b"invalid ");
             print_disparity(d);
         }
-        Decoded::Refused(number) => {
-            io::write_all(1, b"refused ");
-            io::print_decimal(1, number as u64);
-        }
+        Decoded::Refused(number) => print_refusal(number),
     }
 }
 
@@ -93,8 +74,8 @@ fn print_end(end: RunRead) {
             print_disparity(d);
         }
         RunRead::Refused(number) => {
-            io::write_all(1, b"run refused ");
-            io::print_decimal(1, number as u64);
+            io::write_all(1, b"run ");
+            print_refusal(number);
         }
     }
     new_line();

@@ -1,16 +1,12 @@
 // Writes every code group: the name, the octet, and the character that the writer gives at -1 and at +1, in blocks; and what each reads back as.
 // Then what writing each of 256 control bytes is refused with, and what disparities that are none are.
+use character_print::new_line;
+use character_print::print_name;
+use character_print::print_refusal;
+use character_print::space;
 use character_rules::Decoded;
 use character_rules::Encoded;
 use symbol::Symbol;
-
-fn space() {
-    io::write_all(1, &[b' ']);
-}
-
-fn new_line() {
-    io::write_all(1, &[b'\n']);
-}
 
 // The lowest bits of a number, the highest first.
 fn print_bits(n: u16, width: u16) {
@@ -20,18 +16,6 @@ fn print_bits(n: u16, width: u16) {
         let bit = (n >> (left % 16)) % 2;
         io::write_all(1, &[b'0' + (bit as u8)]);
     }
-}
-
-// Dx.y or Kx.y
-fn print_name(s: Symbol) {
-    if s.control {
-        io::write_all(1, &[b'K']);
-    } else {
-        io::write_all(1, &[b'D']);
-    }
-    io::print_decimal(1, (s.byte % 32) as u64);
-    io::write_all(1, &[b'.']);
-    io::print_decimal(1, (s.byte / 32) as u64);
 }
 
 // The character that reads clean as a symbol at a disparity.
@@ -61,11 +45,6 @@ fn print_column(s: Symbol, disparity: i32) {
     space();
     print_bits(c, 4);
     space();
-}
-
-fn print_refusal(number: u8) {
-    io::write_all(1, b"refused ");
-    io::print_decimal(1, number as u64);
 }
 
 // What was written at a disparity, read there again: the name, where it is clean with the closing disparity that the writer gave.
