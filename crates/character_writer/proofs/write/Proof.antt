@@ -1,0 +1,54 @@
+-- Each way out by the tests that led there.
+-- Assumes nothing.
+use mathlib.Core.Path.{_≡_, sym, _∙_, ap, subst}
+use lib.IntN.{ℤ}
+use lib.Dec.{T}
+use mir.Facts.{toZ-ofZ}
+use borrow.Author.Tests.{not-true, not-false}
+use Rattle.laws.proofs.Bools.{true-T}
+use Rattle.character_rules.specs.Disparity.{isDisparity}
+use Rattle.character_rules.specs.Blocks.{character, closing}
+use Rattle.character_rules.specs.Answers.{written}
+use Rattle.character_rules.proofs.Laws.{writing-1, writing-3, writing-done}
+use borrow.Author.Needs.{needs}
+use Rattle.character_writer.proofs.write.Statement.{statement}
+use Rattle.character_writer.proofs.write.Tie as tie
+
+is-disparity-requires : tie.Need-is-disparity-requires
+is-disparity-requires c κs = search needs
+
+returns : tie.Need-returns
+returns c = let a = c .before .before in
+    sym (writing-1 (a .args .symbol) (a .args .disparity)
+    (ap isDisparity (sym (toZ-ofZ (a .fits .disparity))) ∙ sym (c .before .is-disparity .ensures) ∙ not-true _ (c .if1 .taken)))
+
+is-writable-requires : tie.Need-is-writable-requires
+is-writable-requires c κs = search needs
+
+returns-2 : tie.Need-returns-2
+returns-2 c = let a = c .before .before .before .before in
+    sym (writing-3 (a .args .symbol) (a .args .disparity)
+    (ap isDisparity (sym (toZ-ofZ (a .fits .disparity))) ∙ sym (c .before .before .before .is-disparity .ensures) ∙ not-false _ (c .before .before .if1 .left))
+    (sym (c .before .is-writable .ensures) ∙ not-true _ (c .if2 .taken)))
+
+write-blocks-requires : tie.Need-write-blocks-requires
+write-blocks-requires c κs = true-T _ (sym (c .before .before .before .is-disparity .ensures) ∙ not-false _ (c .before .before .if1 .left))
+
+returns-3 : tie.Need-returns-3
+returns-3 c = let a = c .before .before .before .before .before in
+    c .write-blocks .ensures
+    ∙ ap (λ (z : ℤ). written (character (a .args .symbol) z) (closing (a .args .symbol) z)) (toZ-ofZ (a .fits .disparity))
+    ∙ sym (writing-done (a .args .symbol) (a .args .disparity)
+    (ap isDisparity (sym (toZ-ofZ (a .fits .disparity))) ∙ sym (c .before .before .before .before .is-disparity .ensures) ∙ not-false _ (c .before .before .before .if1 .left))
+    (sym (c .before .before .is-writable .ensures) ∙ not-false _ (c .before .if2 .left)))
+
+pub write-spec : {M : Type 1} → statement M
+write-spec =
+    tie.close
+    (tie.spec
+    is-disparity-requires
+    returns
+    is-writable-requires
+    returns-2
+    write-blocks-requires
+    returns-3)
