@@ -16,7 +16,11 @@ use Rattle.character_rules.proofs.Disparities.{by-sign}
 use Rattle.character_rules.proofs.RunLaws.{closing-run, run-done}
 use Rattle.disparity.proofs.Signed.{again, back}
 
-module _ (cs : List ℕ) (d : ℤ) (out new : List ℕ) (p plus : Bool) (e : ℤ) (t : isDisparity d ≡ true) (a : allOf inRange cs ≡ true) (h : length cs ≤ length out) (hp : p ≡ isPlus d) (hplus : plus ≡ isPlus (runClosing cs (disparityOf p))) (he : e ≡ disparityOf plus) (hn : new ≡ runResults cs (disparityOf p) ++ drop (length cs) out) where
+module _
+    (cs : List ℕ) (d : ℤ) (out new : List ℕ) (p plus : Bool) (e : ℤ)
+    (t : isDisparity d ≡ true) (a : allOf inRange cs ≡ true) (h : length cs ≤ length out) (hp : p ≡ isPlus d)
+    (hplus : plus ≡ isPlus (runClosing cs (disparityOf p))) (he : e ≡ disparityOf plus)
+    (hn : new ≡ runResults cs (disparityOf p) ++ drop (length cs) out) where
   start : disparityOf p ≡ d
   start = ap disparityOf hp ∙ by-sign d (true-T (isDisparity d) t)
 

@@ -87,7 +87,8 @@ fn all_in_range(characters: &[u16]) -> bool
 // The run, with the table taken once: the results into the output, and whether the disparity after it is +1.
 fn read_each(characters: &[u16], plus: bool, results: &mut [u16]) -> bool
     requires { ⌜ T (allOf inRange (now characters)) × (length (now characters) ≤ length (now results)) ⌝ }
-    ensures { λ r. ⌜ (r ≡ isPlus (runClosing (now (characters .entry)) (disparityOf plus))) × (now (results .exit) ≡ runResults (now (characters .entry)) (disparityOf plus) ++ drop (length (now (characters .entry))) (now (results .entry))) ⌝ }
+    ensures { λ r. ⌜ (r ≡ isPlus (runClosing (now (characters .entry)) (disparityOf plus)))
+        × (now (results .exit) ≡ runResults (now (characters .entry)) (disparityOf plus) ++ drop (length (now (characters .entry))) (now (results .entry))) ⌝ }
 {
     let entries = TABLE;
     let mut p = plus;
@@ -103,7 +104,8 @@ fn read_each(characters: &[u16], plus: bool, results: &mut [u16]) -> bool
 
 // A run of characters read from a disparity into packed results, with the disparity after it; or refusal 1 or 6.
 pub fn read_run(characters: &[u16], disparity: i32, results: &mut [u16]) -> RunRead
-    ensures { λ r. ⌜ (runSays r ≡ runReading (now (characters .entry)) disparity (length (now (results .entry)))) × (now (results .exit) ≡ runOutput (now (characters .entry)) disparity (now (results .entry))) ⌝ }
+    ensures { λ r. ⌜ (runSays r ≡ runReading (now (characters .entry)) disparity (length (now (results .entry))))
+        × (now (results .exit) ≡ runOutput (now (characters .entry)) disparity (now (results .entry))) ⌝ }
 {
     if !is_disparity(disparity) {
         return RunRead::Refused(refusal::OUT_OF_RANGE);

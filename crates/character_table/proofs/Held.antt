@@ -13,7 +13,8 @@ use Rattle.laws.proofs.Bools.{and-left, and-right}
 use Rattle.laws.proofs.Table.{at}
 use Rattle.symbol.specs.declared.Symbol.{Symbol}
 use Rattle.character_rules.specs.Disparity.{disparityOf}
-use Rattle.character_rules.specs.Blocks.{sixBlocks, fourBlocks, controlFourBlocks, sixBlock, fourByList, fourBlock, firstBlock, between, secondBlock, character, closing}
+use Rattle.character_rules.specs.Blocks.{sixBlocks, fourBlocks, controlFourBlocks, sixBlock, fourByList, fourBlock}
+use Rattle.character_rules.specs.Blocks.{firstBlock, between, secondBlock, character, closing}
 use Rattle.character_rules.specs.Reading.{symbols, firstWith, result, reading}
 use Rattle.character_rules.specs.Results.{packed}
 use Rattle.character_rules.proofs.Laws.{reading-done}

@@ -9,7 +9,8 @@ ghost use mathlib.Core.Bool.{cond};
 ghost use lib.Dec.{T};
 ghost use lib.IntN.{negℤ};
 ghost use Rattle.character_rules.specs.Disparity.{isDisparity};
-ghost use Rattle.character_rules.specs.Blocks.{unbalanced, inForce, sixListed, sixChanges, sixBlock, fourListed, fourChanges, fourByList, alternateAtMinus, alternateAtPlus, fourBlock, character, closing};
+ghost use Rattle.character_rules.specs.Blocks.{unbalanced, inForce, sixListed, sixChanges, sixBlock};
+ghost use Rattle.character_rules.specs.Blocks.{fourListed, fourChanges, fourByList, alternateAtMinus, alternateAtPlus, fourBlock, character, closing};
 ghost use Rattle.character_rules.specs.Answers.{written, writingSays};
 ghost use Rattle.character_rules.specs.Writing.{writing};
 

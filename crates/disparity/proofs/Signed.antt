@@ -8,7 +8,7 @@ use lib.Dec.{T, eqb}
 use lib.IntN.{ℤ, pos, negsuc, negℤ, _-ℤ_}
 use mir.Syntax.{w32}
 use mir.Val.{SFits, toZ, ofZ}
-use borrow.Author.Tests.{eq-eqb, ne-eqb}
+use borrow.Author.Tests.{eq-eqb, ne-eqb, not-true, not-false}
 use Rattle.character_rules.specs.Disparity.{isPlus, isMinus, isDisparity}
 use Rattle.character_rules.proofs.Disparities.{both-ways}
 
@@ -41,6 +41,13 @@ either-yes p d e h f t = simp (ap isPlus (sym h) ∙ sym f ∙ t)
 
 pub either-no : (p m : Bool) (d e : ℤ) → e ≡ d → p ≡ isPlus e → p ≡ false → m ≡ isMinus e → m ≡ isDisparity d
 either-no p m d e h f t g = g ∙ ap isMinus h ∙ simp (ap isPlus (sym h) ∙ sym f ∙ t)
+
+-- what the test of a disparity said to `if !is_disparity(d)`
+pub told-none : (p : Bool) (d e : ℤ) → e ≡ d → p ≡ isDisparity e → not p ≡ true → isDisparity d ≡ false
+told-none p d e h f t = ap isDisparity (sym h) ∙ sym f ∙ not-true p t
+
+pub told-disparity : (p : Bool) (d e : ℤ) → e ≡ d → p ≡ isDisparity e → not p ≡ false → isDisparity d ≡ true
+told-disparity p d e h f t = ap isDisparity (sym h) ∙ sym f ∙ not-false p t
 
 -- the disparity negated
 abbrev pub minus : ℤ → ℤ

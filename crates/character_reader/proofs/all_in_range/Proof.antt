@@ -34,7 +34,10 @@ loop-less : tie.Need-loop-less Inv-loop μ-loop
 loop-less c = search needs
 
 loop-again : tie.Need-loop-again Inv-loop μ-loop
-loop-again c = let l = c .before .before in (omega arith, range-on (l .before .args .characters .now) (l .loop .i) (l .loop .so-far) (l .loop .inv .1) (search needs))
+loop-again c =
+    let b1 = c .before in let b2 = b1 .before in
+    let l = b2 in
+    (omega arith, range-on (l .before .args .characters .now) (l .loop .i) (l .loop .so-far) (l .loop .inv .1) (search needs))
 
 returns : tie.Need-returns Inv-loop μ-loop
 returns c = let l = c .before in range-end (l .before .args .characters .now) (l .loop .i) (l .loop .so-far) (l .loop .inv .1) (omega arith)

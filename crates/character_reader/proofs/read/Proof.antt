@@ -6,7 +6,6 @@ use Prim.Native.Nat.{ℕ}
 use native.Mathlib.Omega.{arith}
 use lib.IntN.{ℤ}
 use mir.Facts.{toZ-ofZ}
-use borrow.Author.Tests.{not-true, not-false}
 use Rattle.laws.proofs.Bools.{true-T}
 use Rattle.character_rules.specs.Disparity.{isPlus, isDisparity, disparityOf}
 use Rattle.character_rules.specs.Reading.{reading}
@@ -15,6 +14,7 @@ use Rattle.character_rules.proofs.Disparities.{by-sign}
 use Rattle.character_rules.proofs.Packed.{unpacked-reading}
 use Rattle.character_rules.proofs.Laws.{reading-far, reading-bad}
 use Rattle.character_table.specs.Table.{table}
+use Rattle.disparity.proofs.Signed.{told-none, told-disparity}
 use borrow.Author.Needs.{needs}
 use Rattle.character_reader.proofs.read.Statement.{statement}
 use Rattle.character_reader.proofs.read.Tie as tie
@@ -28,7 +28,7 @@ is-disparity-requires c κs = search needs
 returns-2 : tie.Need-returns-2
 returns-2 c = let a = c .before .before .before in
     sym (reading-bad (a .args .character) (a .args .disparity) (omega arith)
-    (ap isDisparity (sym (toZ-ofZ (a .fits .disparity))) ∙ sym (c .before .is-disparity .ensures) ∙ not-true _ (c .if2 .taken)))
+    (told-none _ (a .args .disparity) _ (toZ-ofZ (a .fits .disparity)) (c .before .is-disparity .ensures) (c .if2 .taken)))
 
 is-plus-requires : tie.Need-is-plus-requires
 is-plus-requires c κs = search needs
@@ -41,13 +41,16 @@ unpack-result-requires : tie.Need-unpack-result-requires
 unpack-result-requires c κs = search needs
 
 returns-3 : tie.Need-returns-3
-returns-3 c = let a = c .before .before .before .before .before .before .before in
+returns-3 c =
+    let b1 = c .before in let b2 = b1 .before in let b3 = b2 .before in let b4 = b3 .before in let b5 = b4 .before in let b6 = b5 .before in
+    let a = b6 .before in
     let d = a .args .disparity in
     let n = a .args .character in
-    let t = true-T (isDisparity d) (ap isDisparity (sym (toZ-ofZ (a .fits .disparity))) ∙ sym (c .before .before .before .before .before .is-disparity .ensures) ∙ not-false _ (c .before .before .before .before .if2 .left)) in
+    let t = true-T (isDisparity d)
+    (told-disparity _ d _ (toZ-ofZ (a .fits .disparity)) (b5 .is-disparity .ensures) (b4 .if2 .left)) in
     c .unpack-result .ensures
-    ∙ ap unpacked (c .before .look-up .ensures
-    ∙ ap (λ (p : Bool). packed (reading n (disparityOf p))) (c .before .before .is-plus .ensures ∙ ap isPlus (toZ-ofZ (a .fits .disparity)))
+    ∙ ap unpacked (b1 .look-up .ensures
+    ∙ ap (λ (p : Bool). packed (reading n (disparityOf p))) (b2 .is-plus .ensures ∙ ap isPlus (toZ-ofZ (a .fits .disparity)))
     ∙ ap (λ (z : ℤ). packed (reading n z)) (by-sign d t))
     ∙ unpacked-reading n d (omega arith) t
 

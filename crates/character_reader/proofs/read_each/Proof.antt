@@ -31,7 +31,10 @@ cast-look-up c = omega (arith, c .shared-slice-known2 .given (c .before .before 
 
 look-up-requires : tie.Need-look-up-requires Inv-loop μ-loop
 unfolding table
-look-up-requires c κs = let s = c .before .before .before .before .before .before in (refl, range-at (s .args .characters .now) (c .before .before .before .loop .i) (s .pre .0) (search needs))
+look-up-requires c κs =
+    let b1 = c .before in let b2 = b1 .before in let b3 = b2 .before in let b4 = b3 .before in let b5 = b4 .before in let b6 = b5 .before in
+    let s = b6 in
+    (refl, range-at (s .args .characters .now) (b3 .loop .i) (s .pre .0) (search needs))
 
 mul-results : tie.Need-mul-results Inv-loop μ-loop
 mul-results c = search needs
@@ -46,10 +49,13 @@ loop-less : tie.Need-loop-less Inv-loop μ-loop
 loop-less c = search needs
 
 loop-again : tie.Need-loop-again Inv-loop μ-loop
-loop-again c = let s = c .before .before .before .before .before .before .before in
-    let l = c .before .before .before .before .loop in
-    one-more (s .args .characters .now) (disparityOf (s .args .plus)) (s .args .results .now) (l .i) (l .results) (l .p) (c .look-up .result) (l .inv) (search needs)
-    (range-at (s .args .characters .now) (l .i) (s .pre .0) (search needs)) (s .pre .1) (c .look-up .ensures)
+loop-again c =
+    let b1 = c .before in let b2 = b1 .before in let b3 = b2 .before in let b4 = b3 .before in let b5 = b4 .before in let b6 = b5 .before in
+    let b7 = b6 .before in
+    let s = b7 in
+    let l = b4 .loop in
+    one-more (s .args .characters .now) (disparityOf (s .args .plus)) (s .args .results .now) (l .i) (l .results) (l .p) (c .look-up .result)
+    (l .inv) (search needs) (range-at (s .args .characters .now) (l .i) (s .pre .0) (search needs)) (s .pre .1) (c .look-up .ensures)
 
 same-length : tie.Need-same-length Inv-loop μ-loop
 same-length c = search needs

@@ -15,7 +15,9 @@ returns-3 : tie.Need-returns-3
 returns-3 c = simp (c .before .before .if1 .left, ne-eqb _ _ (c .before .if2 .left), eq-eqb _ _ (c .if3 .taken))
 
 returns-4 : tie.Need-returns-4
-returns-4 c = minus-last (c .before .before .before .args .plus) (c .before .before .before .args .x) (c .before .before .if1 .left) (c .before .if2 .left) (c .if3 .left)
+returns-4 c =
+    let b1 = c .before in let b2 = b1 .before in let b3 = b2 .before in
+    minus-last (b3 .args .plus) (b3 .args .x) (b2 .if1 .left) (b1 .if2 .left) (c .if3 .left)
 
 pub alternate-at-minus-spec : {M : Type 1} → statement M
 alternate-at-minus-spec = tie.close (tie.spec returns returns-2 returns-3 returns-4)

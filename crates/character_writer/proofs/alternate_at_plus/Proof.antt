@@ -12,10 +12,14 @@ returns-2 : tie.Need-returns-2
 returns-2 c = simp (not-false (c .before .before .args .plus) (c .before .if1 .left), eq-eqb _ _ (c .if2 .taken))
 
 returns-3 : tie.Need-returns-3
-returns-3 c = simp (not-false (c .before .before .before .args .plus) (c .before .before .if1 .left), ne-eqb _ _ (c .before .if2 .left), eq-eqb _ _ (c .if3 .taken))
+returns-3 c =
+    let b1 = c .before in let b2 = b1 .before in let b3 = b2 .before in
+    simp (not-false (b3 .args .plus) (b2 .if1 .left), ne-eqb _ _ (b1 .if2 .left), eq-eqb _ _ (c .if3 .taken))
 
 returns-4 : tie.Need-returns-4
-returns-4 c = plus-last (c .before .before .before .args .plus) (c .before .before .before .args .x) (not-false _ (c .before .before .if1 .left)) (c .before .if2 .left) (c .if3 .left)
+returns-4 c =
+    let b1 = c .before in let b2 = b1 .before in let b3 = b2 .before in
+    plus-last (b3 .args .plus) (b3 .args .x) (not-false _ (b2 .if1 .left)) (b1 .if2 .left) (c .if3 .left)
 
 pub alternate-at-plus-spec : {M : Type 1} → statement M
 alternate-at-plus-spec = tie.close (tie.spec returns returns-2 returns-3 returns-4)

@@ -16,7 +16,11 @@ in-force-requires : tie.Need-in-force-requires
 in-force-requires c κs = search needs
 
 returns : tie.Need-returns
-returns c = let a = c .before .before .before .args in (four-is (a .control) (a .y) _ _ _ (a .plus) (c .before .before .four-listed .ensures .0) (c .before .four-changes .ensures) (c .in-force .ensures .0), omega (arith, c .in-force .ensures .1))
+returns c =
+    let b1 = c .before in let b2 = b1 .before in let a = b2 .before .args in (
+      four-is (a .control) (a .y) _ _ _ (a .plus) (b2 .four-listed .ensures .0) (b1 .four-changes .ensures) (c .in-force .ensures .0),
+      omega (arith, c .in-force .ensures .1),
+    )
 
 pub four-by-list-spec : {M : Type 1} → statement M
 four-by-list-spec =

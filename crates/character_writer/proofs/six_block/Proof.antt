@@ -16,7 +16,11 @@ in-force-requires : tie.Need-in-force-requires
 in-force-requires c κs = search needs
 
 returns : tie.Need-returns
-returns c = let a = c .before .before .before .args in (six-is (a .control) (a .x) _ _ _ (a .plus) (c .before .before .six-listed .ensures .0) (c .before .six-changes .ensures) (c .in-force .ensures .0), omega (arith, c .in-force .ensures .1))
+returns c =
+    let b1 = c .before in let b2 = b1 .before in let a = b2 .before .args in (
+      six-is (a .control) (a .x) _ _ _ (a .plus) (b2 .six-listed .ensures .0) (b1 .six-changes .ensures) (c .in-force .ensures .0),
+      omega (arith, c .in-force .ensures .1),
+    )
 
 pub six-block-spec : {M : Type 1} → statement M
 six-block-spec =

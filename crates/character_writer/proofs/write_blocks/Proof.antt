@@ -48,10 +48,12 @@ add-t16 : tie.Need-add-t16
 add-t16 c = search needs
 
 returns : tie.Need-returns
-returns c = let s = c .before .before .before .before .before .before .before .before in
-    blocks-right (s .args .s) _ _ _ _ (s .args .d) _ _ _ _ (s .pre) (c .before .before .before .before .turn .ensures .1) (c .turn2 .ensures .1)
-    (c .before .before .before .before .before .before .before .is-plus .ensures) (c .before .before .before .before .before .before .six-block .ensures .0) (c .before .before .before .before .before .six-unbalanced .ensures) (c .before .before .before .before .turn .ensures .0)
-    (c .before .before .before .is-plus2 .ensures) (c .before .before .four-block .ensures .0) (c .before .four-unbalanced .ensures) (c .turn2 .ensures .0)
+returns c =
+    let b1 = c .before in let b2 = b1 .before in let b3 = b2 .before in let b4 = b3 .before in let b5 = b4 .before in let b6 = b5 .before in
+    let b7 = b6 .before in let s = b7 .before in
+    blocks-right (s .args .s) _ _ _ _ (s .args .d) _ _ _ _ (s .pre) (b4 .turn .ensures .1) (c .turn2 .ensures .1) (b7 .is-plus .ensures)
+    (b6 .six-block .ensures .0) (b5 .six-unbalanced .ensures) (b4 .turn .ensures .0) (b3 .is-plus2 .ensures) (b2 .four-block .ensures .0)
+    (b1 .four-unbalanced .ensures) (c .turn2 .ensures .0)
 
 pub write-blocks-spec : {M : Type 1} → statement M
 write-blocks-spec =

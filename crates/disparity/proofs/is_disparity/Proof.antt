@@ -16,7 +16,9 @@ is-minus-requires : tie.Need-is-minus-requires
 is-minus-requires c κs = search needs
 
 returns-2 : tie.Need-returns-2
-returns-2 c = either-no _ _ (c .before .before .before .args .d) _ (toZ-ofZ (c .before .before .before .fits .d)) (c .before .before .is-plus .ensures) (c .before .if1 .left) (c .is-minus .ensures)
+returns-2 c =
+    let b1 = c .before in let b2 = b1 .before in let b3 = b2 .before in
+    either-no _ _ (b3 .args .d) _ (toZ-ofZ (b3 .fits .d)) (b2 .is-plus .ensures) (b1 .if1 .left) (c .is-minus .ensures)
 
 pub is-disparity-spec : {M : Type 1} → statement M
 is-disparity-spec = tie.close (tie.spec is-plus-requires returns is-minus-requires returns-2)
