@@ -165,7 +165,21 @@ static void agree_retry(void) {
   }
 }
 
+/* A packet of a megabyte, and the CRC over it. */
+static void agree_long(void) {
+  static uint8_t million[1 << 20];
+  static uint16_t ours[(1 << 20) + 6], theirs[(1 << 20) + 6];
+  for (size_t i = 0; i < sizeof million; i++) million[i] = (uint8_t)random_below(256);
+  lend();
+  o.disparity = p.disparity = -1;
+  SAME(buzz_write_data(9, million, sizeof million, 1, &o.disparity, ours, sizeof million + 6, &o.n),
+       plain_write_data(9, million, sizeof million, 1, &p.disparity, theirs, sizeof million + 6, &p.n));
+  returned();
+  SAME(memcmp(ours, theirs, sizeof ours), 0);
+}
+
 static int agree(void) {
+  agree_long();
   for (int k = 0; k < 20000; k++) {
     agree_characters();
     agree_runs();

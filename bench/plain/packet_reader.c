@@ -1,4 +1,4 @@
-/* The packet reader: a struct of state and one switch on what is due. Included after the other files of characters, captures and the CRC, whose tables it shares. */
+/* The packet reader: a struct of state and one switch on what is due. Included after the other files, whose tables it shares. */
 #include "plain.h"
 
 enum {
