@@ -16,6 +16,7 @@ typedef struct lending {
   uint32_t a, b, c, d, e, f;
   size_t n;
   uint16_t runs[48];
+  uint32_t events[48];
   uint8_t bytes[64], buffers[64];
 } lending;
 static lending o, p;
@@ -87,6 +88,41 @@ static void agree_reader(void) {
   }
 }
 
+#ifdef BUZZ_HAS_READ_CAPTURE
+/* Pieces of the line, some damaged or cut, one after another through readers that go on. */
+static void agree_capture(void) {
+  buzz_reader ours;
+  plain_reader theirs;
+  buzz_reader_fresh(8, &ours);
+  plain_reader_fresh(8, &theirs);
+  for (int k = 0; k < 20; k++) {
+    uint8_t piece[64];
+    size_t n = plain_pack_trusting(line + random_below(LINE - 40), random_below(41), piece);
+    if (n && !random_below(4)) piece[random_below((uint32_t)n)] ^= (uint8_t)(1u << random_below(8));
+    if (n && !random_below(12)) n--;
+    size_t room = random_below(8) ? 48 : random_below(41);
+    lend();
+    SAME(buzz_read_capture(piece, n, &ours, &o.disparity, o.events, room, &o.n),
+         plain_read_capture(piece, n, &theirs, &p.disparity, p.events, room, &p.n));
+    returned();
+  }
+}
+#else
+static void agree_capture(void) {}
+#endif
+
+static void agree_crc(void) {
+#ifdef BUZZ_HAS_CRC16
+  size_t n = random_below(65);
+  lend();
+  uint8_t run[64];
+  memcpy(run, o.bytes, sizeof run);
+  SAME(buzz_crc16(run, n, o.buffers), 0);
+  plain_crc16(run, n, p.buffers);
+  returned();
+#endif
+}
+
 /* Both ends of both makes over a line that loses, doubles and damages. */
 static void agree_retry(void) {
   buzz_sender sender;
@@ -129,13 +165,29 @@ static void agree_retry(void) {
   }
 }
 
+/* A packet of a megabyte, and the CRC over it. */
+static void agree_long(void) {
+  static uint8_t million[1 << 20];
+  static uint16_t ours[(1 << 20) + 6], theirs[(1 << 20) + 6];
+  for (size_t i = 0; i < sizeof million; i++) million[i] = (uint8_t)random_below(256);
+  lend();
+  o.disparity = p.disparity = -1;
+  SAME(buzz_write_data(9, million, sizeof million, 1, &o.disparity, ours, sizeof million + 6, &o.n),
+       plain_write_data(9, million, sizeof million, 1, &p.disparity, theirs, sizeof million + 6, &p.n));
+  returned();
+  SAME(memcmp(ours, theirs, sizeof ours), 0);
+}
+
 static int agree(void) {
+  agree_long();
   for (int k = 0; k < 20000; k++) {
     agree_characters();
     agree_runs();
+    agree_crc();
   }
   for (int k = 0; k < 2000; k++) {
     agree_reader();
+    agree_capture();
     agree_retry();
   }
   return disagreements != 0;

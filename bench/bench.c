@@ -69,7 +69,7 @@ static void times(void) {
     printf("%zu", i);
     for (size_t f = 0; f < FORMS; f++) {
       void (*form)(void) = rows[i].forms[f];
-      printf(" %.2f", form ? 1e9 * seconds_of(form, 40 * rows[i].rounds) / (double)rows[i].units : 0.0);
+      printf(form ? " %.2f" : " -", form ? 1e9 * seconds_of(form, 40 * rows[i].rounds) / (double)rows[i].units : 0.0);
     }
     printf("\n");
   }

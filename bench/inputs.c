@@ -5,7 +5,7 @@
 #define RUN 1024      /* characters of one call of the bulk jobs */
 #define LINE 8192     /* characters of the capture */
 #define CAPTURE 10240 /* its bytes */
-#define LONG 65536    /* bytes of the long packet */
+#define LONG 16384    /* bytes of the long packet */
 #define SIZE 64       /* S of the line's reader */
 
 static uint8_t bytes[LONG];
@@ -78,7 +78,7 @@ static void data(void) {
 
 static void make_inputs(void) {
   int32_t d = -1;
-  for (size_t i = 0; i < LONG; i++) bytes[i] = (uint8_t)random_below(256);
+  for (uint32_t i = 0; i < LONG; i++) bytes[i] = (uint8_t)(i * i * 40503u >> 7);
   while (length < LINE) {
     data();
     if (random_below(2)) reply();

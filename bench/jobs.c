@@ -42,7 +42,7 @@ static void trusting_read_each(void) { READ_EACH(plain_read_character_trusting(l
   }
 static void ours_write_each(void) { WRITE_EACH(refused |= buzz_write_character(symbols[i] & 255, symbols[i] & 256, &out.disparity, t)) }
 static void promise_write_each(void) { WRITE_EACH(refused |= plain_write_character(symbols[i] & 255, symbols[i] & 256, &out.disparity, t)) }
-static void trusting_write_each(void){WRITE_EACH(plain_write_character_trusting(symbols[i] & 255, symbols[i] & 256, &out.disparity, t))}
+static void trusting_write_each(void) { WRITE_EACH(plain_write_character_trusting(symbols[i] & 255, symbols[i] & 256, &out.disparity, t)) }
 
 /* ---- one data packet ---- */
 
@@ -59,12 +59,12 @@ static void trusting_write_each(void){WRITE_EACH(plain_write_character_trusting(
     out.disparity = -1; \
     out.count = plain_write_data_trusting(7, bytes, N, 0, &out.disparity, out.characters); \
   }
-WRITE_DATA(write_8, 8) WRITE_DATA(write_1024, 1024) WRITE_DATA(write_long, LONG)
+WRITE_DATA(write_8, 8)
+WRITE_DATA(write_1024, 1024)
+WRITE_DATA(write_long, LONG)
 
 #ifdef BUZZ_HAS_CRC16
-    static void ours_crc(void) {
-  refused |= buzz_crc16(bytes, LONG, out.bytes);
-}
+static void ours_crc(void) { refused |= buzz_crc16(bytes, LONG, out.bytes); }
 #else
 #define ours_crc 0
 #endif

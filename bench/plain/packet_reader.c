@@ -1,4 +1,4 @@
-/* The packet reader: a struct of state and one switch on what is due. Included after the other files of characters, captures and the CRC, whose tables it shares. */
+/* The packet reader: a struct of state and one switch on what is due. Included after the other files, whose tables it shares. */
 #include "plain.h"
 
 enum {
@@ -185,15 +185,30 @@ CALL uint32_t plain_reader_step(plain_reader *reader, uint32_t violation, uint32
   return BUZZ_OK;
 }
 
-/* A whole capture: unpacked, read and stepped in one loop, with the state in a copy. */
+/* The result of character i of a capture, after the result before it. */
+static inline unsigned result_at(const uint8_t *b, size_t i, unsigned before) {
+  const uint8_t *two = b + i + i / 4;
+  return results_of[(before >> 1 & 1024) + ((unsigned)(two[0] << 8 | two[1]) >> (6 - i % 4 * 2) & 1023)];
+}
+
+/* A whole capture: unpacked, read and stepped in one loop, with the state in a copy; the bytes of a data packet, most of a line, in a loop of their own. */
 static inline void read_capture(const uint8_t *restrict b, size_t count, plain_reader *reader, int32_t *disparity, uint32_t *restrict events) {
   plain_reader r = *reader;
   unsigned result = *disparity > 0 ? 2048 : 0;
-  for (size_t i = 0; i < count; i++) {
-    const uint8_t *two = b + i + i / 4;
-    unsigned c = (unsigned)(two[0] << 8 | two[1]) >> (6 - i % 4 * 2) & 1023;
-    result = results_of[(result >> 1 & 1024) + c];
-    events[i] = step(&r, result);
+  size_t i = 0;
+  while (i < count) {
+    result = result_at(b, i, result);
+    events[i++] = step(&r, result);
+    if (r.phase != FREE || r.data != 2 || r.priority) continue;
+    uint16_t crc = r.register_of_data;
+    for (; i < count; i++) {
+      unsigned next = result_at(b, i, result);
+      if (next & 0x700) break;
+      result = next;
+      crc = crc_step(crc, (uint8_t)result);
+      events[i] = EVENT(BUZZ_BYTE, result & 255, 0);
+    }
+    r.register_of_data = crc;
   }
   *reader = r;
   *disparity = result >> 11 ? 1 : -1;
