@@ -7,6 +7,10 @@
 #include <stddef.h>
 #include <stdint.h>
 
+#ifdef WRONG_ARCHIVE
+#include "wrong_archive.h"
+#endif
+
 /* Chance, from the seed alone. */
 uint32_t any32(void);
 uint32_t below(uint32_t n);
@@ -39,6 +43,7 @@ void same_state(int kind, const void *bytes, size_t size, const void *state, siz
 void break_bytes(uint8_t *bytes, size_t size, const uint8_t *others);
 
 /* What the archive takes such bytes for, found out by asking copies of them: no state (`broken`), or one that the reference can go on from. */
+void identify_reader(const buzz_reader *reader, uint32_t size, ref_reader *state);
 void identify_sender(const uint8_t *bytes, ref_sender *state);
 void identify_receiver(const uint8_t *bytes, ref_receiver *state);
 

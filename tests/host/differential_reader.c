@@ -5,8 +5,9 @@
 enum { READERS = 6 };
 static const uint8_t twelve[12] = {0xBC, 0x1C, 0x3C, 0x5C, 0x9C, 0xDC, 0x7C, 0xF7, 0xFB, 0xFD, 0xFE, 0xFC};
 
-/* The archive's bytes and the reference's state of one reader; how rarely a packet ends and how rarely something is out of place. */
-static struct pair { uint8_t bytes[BUZZ_READER_BYTES]; ref_reader state; uint32_t ends, slips; int made; } pairs[READERS];
+/* The archive's bytes and the reference's state of one reader; how rarely a packet ends and how rarely something is out of place. Strange: bytes
+ * that nobody made, so that the state may be one of several that nobody can tell apart. */
+static struct pair { uint8_t bytes[BUZZ_READER_BYTES]; ref_reader state; uint32_t ends, slips; int made, strange; } pairs[READERS];
 
 struct symbol { uint32_t violation, byte, control; };
 
@@ -98,19 +99,19 @@ static void a_step(struct pair *p) {
   judge(buzz_reader_step(A(buzz_reader, l), s.violation, s.byte, s.control, A(uint32_t, e), A(uint32_t, v), A(uint32_t, n)), answer);
   if (memcmp(&old, &p->state, sizeof old) == 0 && memcmp(l->archive, l->before, l->size) != 0) differs("a state changed where nothing happened");
   memcpy(p->bytes, l->archive, BUZZ_READER_BYTES);
-  if (!p->state.broken) same_state(0, p->bytes, BUZZ_READER_BYTES, &p->state, sizeof p->state);
+  if (!p->strange) same_state(0, p->bytes, BUZZ_READER_BYTES, &p->state, sizeof p->state);
   give_back();
 }
 
-/* An accepted state is left dropping by an invalid character, with some allowed S, and is never refused afterwards. */
-static void accepted(const buzz_reader *strange) {
+/* An accepted state is left dropping by an invalid character, with some allowed S, and is never refused afterwards; its S, or 0 if it was dropping. */
+static uint32_t accepted(const buzz_reader *strange) {
   buzz_reader copy = *strange, dropping;
-  uint32_t e, v, n, found = 0;
+  uint32_t e, v, n, found = 0, its_size = 0;
   if (buzz_reader_step(&copy, 1, 0, 0, &e, &v, &n) != 0) differs("no answer twice the same");
   for (uint32_t size = 8; size <= 1024; size *= 2) {
     uint32_t e2, v2, n2;
     if (buzz_reader_fresh(size, &dropping) || buzz_reader_step(&dropping, 1, 0, 0, &e2, &v2, &n2)) differs("a fresh reader is refused");
-    found += memcmp(&copy, &dropping, sizeof copy) == 0;
+    if (memcmp(&copy, &dropping, sizeof copy) == 0) found++, its_size = size;
   }
   int was_dropping = e == BUZZ_NOTHING && v == 0 && memcmp(&copy, strange, sizeof copy) == 0;
   if (found != 1 || n != 0 || !(was_dropping || (e == BUZZ_VIOLATION && v == 1))) differs("an invalid character leaves a strange state");
@@ -120,25 +121,45 @@ static void accepted(const buzz_reader *strange) {
     if (one_in(3)) t.control = 1, t.byte = twelve[below(12)];
     if (buzz_reader_step(&copy, t.violation, t.byte, t.control, &e, &v, &n) != 0) differs("a state handed back is refused");
   }
+  return was_dropping ? 0 : its_size;
+}
+
+/* Whether a state was found to be what it is. After an end symbol nobody can tell how long the packet was, nor, outside data, of which kind. */
+static int identified(const ref_reader *known, const ref_reader *found) {
+  ref_reader k = *known, f = *found;
+  if (k.due == CLOSING || k.due == CRC_FIRST) {
+    ref_packet *last = k.priority.open ? &k.priority : &k.data, *same = f.priority.open ? &f.priority : &f.data;
+    if (last->crc != same->crc || (k.due == CLOSING && last->head != same->head)) return 0;
+    memset(last, 0, sizeof *last), memset(same, 0, sizeof *same);
+  }
+  return memcmp(&k, &f, sizeof k) == 0;
 }
 
 /* Bytes that nobody made. The reference does not know how the archive keeps a state, so the archive is asked, with an invalid character, which is
- * refused for the state alone. What it refuses once it refuses always; what it accepts must behave as a state. */
+ * refused for the state alone. What it refuses once it refuses always; what it accepts must behave as a state, and as one of the reference's. */
 static void broken(const struct pair *p) {
   struct pair strange = *p;
   buzz_reader copy;
   uint32_t e, v, n;
-  break_bytes(strange.bytes, sizeof strange.bytes, pairs[below(READERS)].bytes);
+  int whole = one_in(6); /* whole bytes check the identification itself */
+  if (!whole) break_bytes(strange.bytes, sizeof strange.bytes, pairs[below(READERS)].bytes);
   memcpy(copy.bytes, strange.bytes, sizeof copy.bytes);
   begin("buzz_reader_step of broken bytes");
   (void)lend_state(strange.bytes, sizeof strange.bytes);
-  uint32_t answer = buzz_reader_step(&copy, 1, 0, 0, &e, &v, &n);
+  uint32_t size = 0, answer = buzz_reader_step(&copy, 1, 0, 0, &e, &v, &n);
   if (answer > 1) differs("a refusal that a step does not have");
-  if (answer == 0) accepted((const buzz_reader *)(const void *)strange.bytes);
-  give_back();
+  memcpy(copy.bytes, strange.bytes, sizeof copy.bytes);
+  if (answer == 0) size = accepted(&copy);
   strange.state.broken = answer;
-  strange.slips = 2;
-  for (int i = 0; answer && i < 4; i++) a_step(&strange);
+  strange.strange = 1;
+  strange.slips = answer ? 2 : 40;
+  if (size && one_in(p->state.due == OPEN ? 12 : 2)) identify_reader(&copy, size, &strange.state); /* some tens of thousands of questions */
+  else size = 0;
+  uint32_t due = strange.state.due, told = due != CLOSING && due != CRC_FIRST && due != CRC_SECOND && due != LMP_CHECK; /* nothing is left open */
+  if (size && told) same_state(0, strange.bytes, BUZZ_READER_BYTES, &strange.state, sizeof strange.state);
+  if (whole && (answer || (size && due != CRC_SECOND && due != LMP_CHECK && !identified(&p->state, &strange.state)))) differs("a state is taken for another");
+  give_back();
+  for (int i = 0; (answer && i < 4) || (size && i < 200); i++) a_step(&strange);
 }
 
 void reader_step(void) {

@@ -132,10 +132,17 @@ static void sender_call(struct sending *s);
 /* Bytes that nobody made, and some calls from there. */
 static void broken_sending(const struct sending *s) {
   static struct sending strange;
+  int whole = one_in(6) && !s->state.down; /* whole bytes check the identification itself */
   strange = *s;
   strange.strange = 1;
-  break_bytes(strange.bytes, BUZZ_SENDER_BYTES, sendings[below(ENDS)].bytes);
+  if (!whole) break_bytes(strange.bytes, BUZZ_SENDER_BYTES, sendings[below(ENDS)].bytes);
   identify_sender(strange.bytes, &strange.state);
+  for (uint32_t i = s->state.stored; i < 8 && whole; i++) { /* what a released place holds cannot be asked */
+    uint32_t place = (s->state.oldest + i) % 8;
+    strange.state.length[place] = s->state.length[place], strange.state.channel[place] = s->state.channel[place];
+    strange.state.bad[place] = s->state.bad[place];
+  }
+  if (whole && memcmp(&strange.state, &s->state, sizeof s->state) != 0) differs("a state is taken for another");
   for (int i = 0; i < 12; i++) sender_call(&strange);
   a_reset(&strange);
 }
@@ -216,8 +223,10 @@ static void a_damaged_arrival(struct receiving *r) {
 
 static void broken_receiving(const struct receiving *r) {
   struct receiving strange = *r;
-  break_bytes(strange.bytes, BUZZ_RECEIVER_BYTES, receivings[below(ENDS)].bytes);
+  int whole = one_in(6);
+  if (!whole) break_bytes(strange.bytes, BUZZ_RECEIVER_BYTES, receivings[below(ENDS)].bytes);
   identify_receiver(strange.bytes, &strange.state);
+  if (whole && memcmp(&strange.state, &r->state, sizeof r->state) != 0) differs("a state is taken for another");
   for (int i = 0; i < 6; i++) {
     if (one_in(4)) a_damaged_arrival(&strange);
     else an_arrival(&strange);
