@@ -16,9 +16,11 @@ SHAPE = re.compile(
     r"can be named from here|not in scope|was not admitted|argument patterns|syntax|unexpected|parse|no such|cannot find"
     r"|duplicate|unknown|mismatched|has no field|not covered|too many|too few|hole"
 )
+# A walk by hand no longer follows the code: it looks for a local, or a place in one, that the edited code has elsewhere.
+MISFIT = re.compile(r"prog\.Wp\.spotOf|mir\.MapTy\.mapLocal|code\.Mir\.table")
 # A fact that the proof needs and that the wrong answer does not give.
 FACT = re.compile(
-    r"it is not proved that|expected type|the two types|give a proof of that|no proof of|omega|`search`|does not hold"
+    r"it is not proved that|expected type|the two types|the two sides|give a proof of that|no proof of|omega|`search`|does not hold"
     r"|computed as far as they go|rewrites nothing|is not a proof|does not prove|cannot prove|no instance"
 )
 
@@ -38,6 +40,8 @@ def fault(log):
         return "its log has no error"
     if SHAPE.search(re.sub(r"`[^`]*`(?! shows it as)", "`..`", error).replace("shows it as a hole's goal", "")):
         return f"refused by its shape: {error[:160]}"
+    if MISFIT.search(error):
+        return f"refused because the walk no longer follows the code: {error[:160]}"
     if not FACT.search(error):
         return f"refused by an error of no known kind: {error[:160]}"
     return ""
@@ -54,10 +58,12 @@ def self_test():
         "a.antt:1:1: error: module `p.Tie` has no `Need-returns-4` that can be named from here",
         "a.antt:1:1: error: `returns`: `x` is not in scope: add a `use`",
         "a.rt:1:1: error: something nobody has seen",
+        "a.antt:1:1: error: `walk`: as printed, the two types first differ where one has `((prog.Wp.spotOf {M = M} record {op = .op} 6) .2)`",
     ]
     good = [
         "a.antt:1:1: error: `returns`: as printed, the two types differ only where one has `1` (expected)",
         "note: a.rt:97:5: it is not proved that what the function ensures holds when it returns (`returns`)",
+        "a.antt:8:26: error: `walk`: as printed, the two sides first differ where one has `mir.Val.WT` (left), at the start, and the other has `mir.Val.WTs`",
         "a.antt:9:13: error: `returns`: give a proof of that as the last argument, `simp L t` (`simp L ?` shows it as a hole's goal), or add what is missing",
     ]
     assert all(fault(log) for log in bad) and not any(fault(log) for log in good)
