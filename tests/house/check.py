@@ -11,7 +11,7 @@ import sys
 ROOT = pathlib.Path(__file__).resolve().parents[2]
 LINES, WIDE = 300, 200
 # One table, an entry a line as the formatter lays it out.
-LONG = {"table.rt"}
+LONG = {"crates/character_table/src/lib.rt", "crates/crc/src/table.rt"}
 
 
 def texts():
@@ -27,7 +27,7 @@ def faults():
     for path in texts():
         name = path.relative_to(ROOT)
         lines = path.read_text(encoding="utf-8").split("\n")
-        if len(lines) > LINES and path.name not in LONG:
+        if len(lines) > LINES and str(name) not in LONG:
             yield f"{name}: {len(lines)} lines"
         if path.suffix == ".rt" or "specs" in name.parts:
             wide = [i for i, line in enumerate(lines, 1) if len(line) > WIDE]
