@@ -1,4 +1,5 @@
 // A whole capture read into events, one packed number a character, with the table taken once and the state's rule tested once.
+mod bytes;
 mod characters;
 mod turns;
 
@@ -45,6 +46,19 @@ fn read_one(entries: &[u16; 1024], capture: &[u8], from: Place, events: &mut [u3
     }
 }
 
+// A run of user bytes, if one stands here, and the character after it: at least one.
+fn read_some(entries: &[u16; 1024], capture: &[u8], from: Place, events: &mut [u32]) -> Place
+    requires { ⌜ (now entries ≡ table) × (length (now capture) ≤ 65535) × (from .at < characterCount (length (now capture))) × (characterCount (length (now capture)) ≤ length (now events)) × (wellFormed (from .reader) ≡ true) ⌝ }
+    ensures { λ r. ⌜ Ran (charactersOf (now (capture .entry))) (from .at) (from .plus) (from .reader) (now (events .entry)) (r .at) (r .plus) (r .reader) (now (events .exit)) × (from .at < r .at) ⌝ }
+{
+    let n = 8 * capture.len() / 10;
+    let q = bytes::user_bytes(entries, capture, from, n, &mut *events);
+    if q.at < n {
+        return read_one(entries, capture, q, events);
+    }
+    q
+}
+
 // All characters from the first on.
 fn read_each(capture: &[u8], plus: bool, reader: Reader, events: &mut [u32]) -> Place
     requires { ⌜ (length (now capture) ≤ 65535) × (characterCount (length (now capture)) ≤ length (now events)) × (wellFormed reader ≡ true) ⌝ }
@@ -58,7 +72,7 @@ fn read_each(capture: &[u8], plus: bool, reader: Reader, events: &mut [u32]) -> 
         reader,
     };
     while p.at < n {
-        p = read_one(&entries, capture, p, &mut *events);
+        p = read_some(&entries, capture, p, &mut *events);
     }
     p
 }

@@ -72,6 +72,10 @@ module _ (cs : List ℕ) where
   pub ran-none : (i : ℕ) (p : Bool) (r : Reader) (out : List ℕ) → i ≤ length cs → wellFormed r ≡ true → Ran cs i p r out i p r out
   ran-none i p r out h ok = record { forward = omega arith; place = h; room = refl; events = refl; ends = refl; after = refl; rule = ok }
 
+  -- nothing read, the state written otherwise
+  pub ran-same : (i : ℕ) (p : Bool) (r s : Reader) (out : List ℕ) → r ≡ s → i ≤ length cs → wellFormed r ≡ true → Ran cs i p r out i p s out
+  ran-same i p r s out e h ok = subst (λ (x : Reader). Ran cs i p r out i p x out) e (ran-none i p r out h ok)
+
   pub ran-then : {i j k : ℕ} {p q t : Bool} {r s u : Reader} {old mid new : List ℕ} → Ran cs i p r old j q s mid → Ran cs j q s mid k t u new → Ran cs i p r old k t u new
   ran-then a b =
       record {

@@ -24,15 +24,15 @@ mul-n c = omega arith
 loop-holds : tie.Need-loop-holds Inv-loop μ-loop
 loop-holds c = ran-none (charactersOf (c .before .before .args .capture .now)) 0 (c .before .before .args .plus) (c .before .before .args .reader) (c .before .before .args .events .now) (omega arith) (c .before .before .pre .2)
 
-read-one-requires : tie.Need-read-one-requires Inv-loop μ-loop
+read-some-requires : tie.Need-read-some-requires Inv-loop μ-loop
 unfolding table
-read-one-requires c κs = let l = c .before .before .before .before .loop .inv in (refl, c .before .before .before .before .before .before .before .pre .0, omega arith, omega arith, l .rule)
+read-some-requires c κs = let l = c .before .before .before .before .loop .inv in (refl, c .before .before .before .before .before .before .before .pre .0, omega arith, omega arith, l .rule)
 
 loop-less : tie.Need-loop-less Inv-loop μ-loop
 loop-less c = omega arith
 
 loop-again : tie.Need-loop-again Inv-loop μ-loop
-loop-again c = ran-then (charactersOf (c .before .before .before .before .before .before .before .before .before .before .args .capture .now)) (c .before .before .before .before .before .before .before .loop .inv) (c .before .before .read-one .ensures .0)
+loop-again c = ran-then (charactersOf (c .before .before .before .before .before .before .before .before .before .before .args .capture .now)) (c .before .before .before .before .before .before .before .loop .inv) (c .before .before .read-some .ensures .0)
 
 same-length : tie.Need-same-length Inv-loop μ-loop
 same-length c = c .before .before .loop .inv .room
@@ -53,7 +53,7 @@ read-each-spec =
     μ-loop
     mul-n
     loop-holds
-    read-one-requires
+    read-some-requires
     loop-less
     loop-again
     same-length
