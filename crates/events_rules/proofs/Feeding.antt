@@ -1,0 +1,120 @@
+-- A run of user bytes: while a packet takes bytes, each clean data symbol is one event, one step of the CRC register and nothing else.
+-- Assumes nothing.
+use mathlib.Core.Path.{_≡_, refl, sym, _∙_, ap, subst}
+use mathlib.Core.Bool.{Bool, true, false}
+use mathlib.Core.List.{List}
+use Prim.Native.Nat.{ℕ, _+_, _-_, _*_, _/_, _%_, _≤_, _<_}
+use native.Mathlib.Omega.{arith}
+use borrow.Author.Tests.{eq-eqb, ne-eqb, lt-leb}
+use lib.Dec.{T, eqb, leb}
+use lib.IntN.{ℤ}
+use lib.ListN.{length, getD, set, length-set}
+use Rattle.symbol.specs.Symbols.{dataSymbol}
+use Rattle.character_rules.specs.Disparity.{disparityOf}
+use Rattle.character_rules.specs.Answers.{Reading, clean}
+use Rattle.character_rules.specs.Reading.{reading}
+use Rattle.character_rules.specs.Results.{packed, packedDisparity, unpacked}
+use Rattle.character_rules.proofs.Packed.{unpacked-reading}
+use Rattle.crc.specs.Crc16.{crcByte}
+use Rattle.packet_rules.specs.declared.DataPacket.{DataPacket}
+use Rattle.packet_rules.specs.declared.DataPacket.the-variants.{InData}
+use Rattle.packet_rules.specs.declared.PriorityPacket.the-variants.{NoPriority, InPriority}
+use Rattle.packet_rules.specs.declared.Phase.the-variants.{Free}
+use Rattle.packet_rules.specs.declared.Reader.{Reader}
+use Rattle.packet_rules.specs.Answers.{Answer, gaveByte}
+use Rattle.packet_rules.specs.State.{wellFormed}
+use Rattle.packet_rules.specs.Step.{stepOf}
+use Rattle.packet_rules.proofs.Runs.{gives}
+use Rattle.packet_rules.proofs.Steps.{st, on-byte}
+use Rattle.events_rules.specs.Numbers.{packedEvent}
+use Rattle.events_rules.proofs.Runs.{Ran, disparity-is, ran-none, ran-then, ran-one}
+
+-- ---- a packed result that is clean data
+
+pub clean-data : (n : ℕ) → n % 2048 < 256 → unpacked n ≡ clean (dataSymbol (n % 256)) (packedDisparity n)
+unfolding unpacked
+clean-data n h =
+    let a : n / 512 % 4 ≡ 0 = omega arith in
+    let b : n / 256 % 2 ≡ 0 = omega arith in
+    rw (eq-eqb (n / 512 % 4) 0 a) (ap (λ (x : Bool). clean (record { byte = n % 256; control = x }) (packedDisparity n)) (ap (λ (y : ℕ). eqb y 1) b))
+
+-- ---- states that take bytes, by how many came and by the register
+
+-- from such a state, up to m bytes, each is given as it comes
+abbrev pub Feeds : (ℕ → ℕ → Reader) → ℕ → Type 0
+Feeds f m =
+    (k c b : ℕ) (e : ℤ) → k < m → wellFormed (f k c) ≡ true
+    → stepOf (f k c) (clean (dataSymbol b) e) ≡ gives (gaveByte b) (f (k + 1) (crcByte c b))
+
+-- a data packet that has begun
+abbrev pub inData : ℕ → ℕ → ℕ → ℕ → Reader
+inData s h k c = st s (InData h true c) NoPriority Free
+
+pub data-feeds : (s h m : ℕ) → Feeds (inData s h) m
+data-feeds s h m k c b e l ok = on-byte s (InData h true c) NoPriority e b refl refl ok
+
+-- a priority packet with room for m bytes
+abbrev pub inPriority : ℕ → DataPacket → ℕ → ℕ → ℕ → ℕ → Reader
+inPriority s d o n k c = st s d (InPriority o (n + k) c) Free
+
+pub priority-feeds : (s : ℕ) (d : DataPacket) (o n m : ℕ) → n + m ≤ s → Feeds (inPriority s d o n) m
+priority-feeds s d o n m room k c b e l ok =
+    let one : (n + k) + 1 ≡ n + (k + 1) = omega arith in
+    on-byte s d (InPriority o (n + k) c) e b refl (lt-leb s (n + k) (omega arith)) ok
+    ∙ ap (λ (j : ℕ). gives (gaveByte b) (st s d (InPriority o j (crcByte c b)) Free)) one
+
+-- ---- a run of bytes, from place i to place j, none past `until`: whatever the packet that takes them
+
+pub record Fed (cs : List ℕ) (until i : ℕ) (p : Bool) (c : ℕ) (old : List ℕ) (j : ℕ) (q : Bool) (x : ℕ) (new : List ℕ) : Type 0 where
+  pub forward : i ≤ j
+  pub within : j ≤ until
+  pub room : length new ≡ length old
+  pub runs : (f : ℕ → ℕ → Reader) → Feeds f (until - i) → wellFormed (f 0 c) ≡ true → Ran cs i p (f 0 c) old j q (f (j - i) x) new
+
+module _ (cs : List ℕ) (until i : ℕ) (p : Bool) (c : ℕ) (old : List ℕ) (most : until ≤ length cs) where
+  pub fed-none : i ≤ until → Fed cs until i p c old i p c old
+  fed-none h =
+      let none : 0 ≡ i - i = omega arith in
+      record {
+        forward = omega arith;
+        within = h;
+        room = refl;
+        runs = λ f feeds ok. subst (λ (k : ℕ). Ran cs i p (f 0 c) old i p (f k c) old) none (ran-none cs i p (f 0 c) old (omega arith) ok);
+      }
+
+  module _ (j : ℕ) (q : Bool) (x : ℕ) (out : List ℕ) (n : ℕ) (fed : Fed cs until i p c old j q x out) (h : j < until) (g : getD cs j 0 < 1024) (fits : length cs ≤ length out) (is : n ≡ packed (reading (getD cs j 0) (disparityOf q))) (data-result : n % 2048 < 256) where
+    result : reading (getD cs j 0) (disparityOf q) ≡ clean (dataSymbol (n % 256)) (packedDisparity n)
+    result = sym (unpacked-reading (getD cs j 0) (disparityOf q) (omega arith) (disparity-is q)) ∙ ap unpacked (sym is) ∙ clean-data n data-result
+
+    -- one byte more
+    pub fed-one : Fed cs until i p c old (j + 1) (leb 2048 n) (crcByte x (n % 256)) (set out j (262144 + n % 256))
+    unfolding packedEvent
+    fed-one =
+        let a = fed .forward in
+        let one : (j - i) + 1 ≡ (j + 1) - i = omega arith in
+        record {
+          forward = omega arith;
+          within = omega arith;
+          room = length-set out j (262144 + n % 256) ∙ fed .room;
+          runs = λ f feeds ok.
+              let ran = fed .runs f feeds ok in
+              let said : stepOf (f (j - i) x) (reading (getD cs j 0) (disparityOf q)) ≡ gives (gaveByte (n % 256)) (f ((j - i) + 1) (crcByte x (n % 256))) = ap (stepOf (f (j - i) x)) result ∙ feeds (j - i) x (n % 256) (packedDisparity n) (omega arith) (ran .rule) in
+              ran-then cs ran
+              (ran-one cs j q (f (j - i) x) out n (262144 + n % 256) (f ((j + 1) - i) (crcByte x (n % 256))) (omega arith) g fits (ran .rule) is
+              (sym (ap (λ (y : Answer). packedEvent (y .said)) said))
+              (ap (λ (k : ℕ). f k (crcByte x (n % 256))) (sym one) ∙ sym (ap (λ (y : Answer). y .reader) said)));
+        }
+
+-- ---- the run in a packet of each kind
+
+module _ (cs : List ℕ) (until i : ℕ) (p : Bool) (c : ℕ) (old : List ℕ) (j : ℕ) (q : Bool) (x : ℕ) (new : List ℕ) (fed : Fed cs until i p c old j q x new) where
+  pub data-ran : (s h : ℕ) → wellFormed (st s (InData h true c) NoPriority Free) ≡ true
+      → Ran cs i p (st s (InData h true c) NoPriority Free) old j q (st s (InData h true x) NoPriority Free) new
+  data-ran s h ok = fed .runs (inData s h) (data-feeds s h (until - i)) ok
+
+  pub priority-ran : (s : ℕ) (d : DataPacket) (o n : ℕ) → n + (until - i) ≤ s → wellFormed (st s d (InPriority o n c) Free) ≡ true
+      → Ran cs i p (st s d (InPriority o n c) Free) old j q (st s d (InPriority o (n + (j - i)) x) Free) new
+  priority-ran s d o n room ok =
+      let none : n + 0 ≡ n = omega arith in
+      subst (λ (k : ℕ). Ran cs i p (st s d (InPriority o k c) Free) old j q (st s d (InPriority o (n + (j - i)) x) Free) new) none
+      (fed .runs (inPriority s d o n) (priority-feeds s d o n (until - i) room) (ap (λ (k : ℕ). wellFormed (st s d (InPriority o k c) Free)) none ∙ ok))
