@@ -1,15 +1,11 @@
-// Writing and reading characters.
-use host_marks::mark_number;
+// What C calls to write and read characters.
 use character_rules::Decoded;
 use character_rules::Encoded;
 use character_rules::RunRead;
+use host_marks::mark_number;
 use symbol::Symbol;
 ghost use mathlib.Core.Path.{_≡_};
-ghost use lib.ListN.{length};
-ghost use Rattle.character_rules.specs.Reading.{reading};
-ghost use Rattle.character_rules.specs.Results.{runReading, runOutput};
-ghost use Rattle.host_rules.specs.Numbers.{markNumber, orOld};
-ghost use Rattle.host_rules.specs.Characters.{writingNumbers, byteIn, controlIn, afterResult};
+ghost use Rattle.host_calls.specs.CharacterCalls.{Writes, writes, Reads, reads, ReadsRun, readsRun};
 
 // A symbol written as a character at a disparity, which is turned to the closing one.
 #[no_mangle]
@@ -19,7 +15,8 @@ pub extern "C" fn buzz_write_character(
     disparity: &mut i32,
     character: &mut u32,
 ) -> u32
-    ensures { λ r. ⌜ (r ≡ writingNumbers byte control (now (disparity .entry)) .refusal) × (now (disparity .exit) ≡ orOld (writingNumbers byte control (now (disparity .entry)) .disparity) (now (disparity .entry))) × (now (character .exit) ≡ orOld (writingNumbers byte control (now (disparity .entry)) .character) (now (character .entry))) ⌝ }
+    ensures { λ r. ⌜ (let after = writes byte control (record { disparity = now (disparity .entry); character = now (character .entry) }) in
+        (r ≡ after .refusal) × (now (disparity .exit) ≡ after .lent .disparity) × (now (character .exit) ≡ after .lent .character)) ⌝ }
 {
     if 255 < byte {
         return refusal::OUT_OF_RANGE as u32;
@@ -51,7 +48,10 @@ pub extern "C" fn buzz_read_character(
     byte: &mut u32,
     control: &mut u32,
 ) -> u32
-    ensures { λ r. ⌜ (r ≡ reading character (now (disparity .entry)) .refusal) × (now (disparity .exit) ≡ orOld (reading character (now (disparity .entry)) .disparity) (now (disparity .entry))) × (now (violation .exit) ≡ afterResult (reading character (now (disparity .entry)) .disparity) (now (violation .entry)) (reading character (now (disparity .entry)) .violation)) × (now (byte .exit) ≡ afterResult (reading character (now (disparity .entry)) .disparity) (now (byte .entry)) (byteIn (reading character (now (disparity .entry)) .symbol))) × (now (control .exit) ≡ afterResult (reading character (now (disparity .entry)) .disparity) (now (control .entry)) (controlIn (reading character (now (disparity .entry)) .symbol))) ⌝ }
+    ensures { λ r. ⌜ (let old : Reads = record { disparity = now (disparity .entry); violation = now (violation .entry); byte = now (byte .entry); control = now (control .entry) } in
+        let after = reads character old in
+        (r ≡ after .refusal) × (now (disparity .exit) ≡ after .lent .disparity) × (now (violation .exit) ≡ after .lent .violation)
+        × (now (byte .exit) ≡ after .lent .byte) × (now (control .exit) ≡ after .lent .control)) ⌝ }
 {
     let answer = character::reader::read(character, *disparity);
     match answer {
@@ -87,7 +87,8 @@ pub extern "C" fn buzz_read_characters(
     disparity: &mut i32,
     results: &mut [u16],
 ) -> u32
-    ensures { λ r. ⌜ (r ≡ runReading (now (characters .entry)) (now (disparity .entry)) (length (now (results .entry))) .refusal) × (now (disparity .exit) ≡ orOld (runReading (now (characters .entry)) (now (disparity .entry)) (length (now (results .entry))) .disparity) (now (disparity .entry))) × (now (results .exit) ≡ runOutput (now (characters .entry)) (now (disparity .entry)) (now (results .entry))) ⌝ }
+    ensures { λ r. ⌜ (let after = readsRun (now (characters .entry)) (record { disparity = now (disparity .entry); results = now (results .entry) }) in
+        (r ≡ after .refusal) × (now (disparity .exit) ≡ after .lent .disparity) × (now (results .exit) ≡ after .lent .results)) ⌝ }
 {
     let answer = character::reader::read_run(characters, *disparity, results);
     match answer {

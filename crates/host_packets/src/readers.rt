@@ -1,15 +1,12 @@
 // The packet reader, its state in 15 lent bytes.
 use packet_rules::FreshReader;
 ghost use mathlib.Core.Path.{_≡_};
-ghost use Rattle.packet_rules.specs.State.{freshReader};
-ghost use Rattle.host_rules.specs.Numbers.{orOld, stands};
-ghost use Rattle.host_rules.specs.ReaderBytes.{readerBytes};
-ghost use Rattle.host_rules.specs.Stepping.{bytesMade, stepNumbers, toldOf};
+ghost use Rattle.host_calls.specs.PacketCalls.{begins, Steps, steps};
 
 // A reader before any character, for segments of S bytes.
 #[no_mangle]
 pub extern "C" fn buzz_reader_fresh(size: u32, reader: &mut [u8; 15]) -> u32
-    ensures { λ r. ⌜ (r ≡ orOld (freshReader size .refusal) 0) × (now (reader .exit) ≡ orOld (bytesMade (freshReader size .reader)) (now (reader .entry))) ⌝ }
+    ensures { λ r. ⌜ (let after = begins size (now (reader .entry)) in (r ≡ after .refusal) × (now (reader .exit) ≡ after .lent)) ⌝ }
 {
     let answer = packet_reader::fresh(size);
     match answer {
@@ -32,7 +29,10 @@ pub extern "C" fn buzz_reader_step(
     value: &mut u32,
     number: &mut u32,
 ) -> u32
-    ensures { λ r. ⌜ (r ≡ toldOf (stepNumbers (now (reader .entry)) violation byte control .said) .refusal) × (now (reader .exit) ≡ stands (toldOf (stepNumbers (now (reader .entry)) violation byte control .said) .refusal) (now (reader .entry)) (readerBytes (stepNumbers (now (reader .entry)) violation byte control .reader))) × (now (event .exit) ≡ stands (toldOf (stepNumbers (now (reader .entry)) violation byte control .said) .refusal) (now (event .entry)) (toldOf (stepNumbers (now (reader .entry)) violation byte control .said) .event)) × (now (value .exit) ≡ stands (toldOf (stepNumbers (now (reader .entry)) violation byte control .said) .refusal) (now (value .entry)) (toldOf (stepNumbers (now (reader .entry)) violation byte control .said) .value)) × (now (number .exit) ≡ stands (toldOf (stepNumbers (now (reader .entry)) violation byte control .said) .refusal) (now (number .entry)) (toldOf (stepNumbers (now (reader .entry)) violation byte control .said) .number)) ⌝ }
+    ensures { λ r. ⌜ (let old : Steps = record { reader = now (reader .entry); event = now (event .entry); value = now (value .entry); number = now (number .entry) } in
+        let after = steps violation byte control old in
+        (r ≡ after .refusal) × (now (reader .exit) ≡ after .lent .reader) × (now (event .exit) ≡ after .lent .event)
+        × (now (value .exit) ≡ after .lent .value) × (now (number .exit) ≡ after .lent .number)) ⌝ }
 {
     let step = host_reader::step(*reader, violation, byte, control);
     let said = step.event;

@@ -1,8 +1,9 @@
 // The packet writer: one whole data packet, priority packet or retry LMP a call, as characters in the front of a lent run.
 use packet_rules::Written;
 ghost use mathlib.Core.Path.{_≡_};
-ghost use Rattle.packet_rules.specs.Packets.{inData, inPriority, retry, packetWriting, packetOutput};
-ghost use Rattle.host_rules.specs.Numbers.{markOf, orOld};
+ghost use Rattle.packet_rules.specs.Packets.{inData, inPriority, retry};
+ghost use Rattle.host_rules.specs.Numbers.{markOf};
+ghost use Rattle.host_calls.specs.PacketCalls.{WritesPacket, writesPacket};
 
 // A data packet; the disparity is turned to the closing one.
 #[no_mangle]
@@ -14,10 +15,10 @@ pub extern "C" fn buzz_write_data(
     characters: &mut [u16],
     count: &mut usize,
 ) -> u32
-    ensures { λ r. ⌜ (r ≡ orOld (packetWriting 0 (inData channel (now (bytes .entry)) (markOf bad)) (now (disparity .entry)) (now (characters .entry)) .refusal) 0)
-        × (now (disparity .exit) ≡ orOld (packetWriting 0 (inData channel (now (bytes .entry)) (markOf bad)) (now (disparity .entry)) (now (characters .entry)) .disparity) (now (disparity .entry)))
-        × (now (count .exit) ≡ orOld (packetWriting 0 (inData channel (now (bytes .entry)) (markOf bad)) (now (disparity .entry)) (now (characters .entry)) .count) (now (count .entry)))
-        × (now (characters .exit) ≡ packetOutput 0 (inData channel (now (bytes .entry)) (markOf bad)) (now (disparity .entry)) (now (characters .entry))) ⌝ }
+    ensures { λ r. ⌜ (let old : WritesPacket = record { disparity = now (disparity .entry); characters = now (characters .entry); count = now (count .entry) } in
+        let after = writesPacket 0 (inData channel (now (bytes .entry)) (markOf bad)) old in
+        (r ≡ after .refusal) × (now (disparity .exit) ≡ after .lent .disparity) × (now (characters .exit) ≡ after .lent .characters)
+        × (now (count .exit) ≡ after .lent .count)) ⌝ }
 {
     let answer = packet_writer::write_data(channel, bytes, bad != 0, *disparity, characters);
     match answer {
@@ -45,10 +46,10 @@ pub extern "C" fn buzz_write_priority(
     characters: &mut [u16],
     count: &mut usize,
 ) -> u32
-    ensures { λ r. ⌜ (r ≡ orOld (packetWriting size (inPriority channel segment (now (bytes .entry)) (markOf bad)) (now (disparity .entry)) (now (characters .entry)) .refusal) 0)
-        × (now (disparity .exit) ≡ orOld (packetWriting size (inPriority channel segment (now (bytes .entry)) (markOf bad)) (now (disparity .entry)) (now (characters .entry)) .disparity) (now (disparity .entry)))
-        × (now (count .exit) ≡ orOld (packetWriting size (inPriority channel segment (now (bytes .entry)) (markOf bad)) (now (disparity .entry)) (now (characters .entry)) .count) (now (count .entry)))
-        × (now (characters .exit) ≡ packetOutput size (inPriority channel segment (now (bytes .entry)) (markOf bad)) (now (disparity .entry)) (now (characters .entry))) ⌝ }
+    ensures { λ r. ⌜ (let old : WritesPacket = record { disparity = now (disparity .entry); characters = now (characters .entry); count = now (count .entry) } in
+        let after = writesPacket size (inPriority channel segment (now (bytes .entry)) (markOf bad)) old in
+        (r ≡ after .refusal) × (now (disparity .exit) ≡ after .lent .disparity) × (now (characters .exit) ≡ after .lent .characters)
+        × (now (count .exit) ≡ after .lent .count)) ⌝ }
 {
     let answer = packet_writer::write_priority(
         size,
@@ -81,10 +82,10 @@ pub extern "C" fn buzz_write_lmp(
     characters: &mut [u16],
     count: &mut usize,
 ) -> u32
-    ensures { λ r. ⌜ (r ≡ orOld (packetWriting 0 (retry (markOf nack) number) (now (disparity .entry)) (now (characters .entry)) .refusal) 0)
-        × (now (disparity .exit) ≡ orOld (packetWriting 0 (retry (markOf nack) number) (now (disparity .entry)) (now (characters .entry)) .disparity) (now (disparity .entry)))
-        × (now (count .exit) ≡ orOld (packetWriting 0 (retry (markOf nack) number) (now (disparity .entry)) (now (characters .entry)) .count) (now (count .entry)))
-        × (now (characters .exit) ≡ packetOutput 0 (retry (markOf nack) number) (now (disparity .entry)) (now (characters .entry))) ⌝ }
+    ensures { λ r. ⌜ (let old : WritesPacket = record { disparity = now (disparity .entry); characters = now (characters .entry); count = now (count .entry) } in
+        let after = writesPacket 0 (retry (markOf nack) number) old in
+        (r ≡ after .refusal) × (now (disparity .exit) ≡ after .lent .disparity) × (now (characters .exit) ≡ after .lent .characters)
+        × (now (count .exit) ≡ after .lent .count)) ⌝ }
 {
     let answer = packet_writer::write_lmp(nack != 0, number, *disparity, characters);
     match answer {

@@ -1,17 +1,12 @@
-// The receiving end of the retry, its state in 4 lent bytes.
+// What C calls of the receiving end of the retry, its state in 4 lent bytes.
 use host_marks::mark_number;
 ghost use mathlib.Core.Path.{_≡_};
-ghost use lib.ListN.{length};
-ghost use Rattle.retry_rules.specs.Fresh.{freshReceiverOf};
-ghost use Rattle.retry_rules.specs.Arrival.{arrivalOf, arrivalOutput, damagedArrivalOf};
-ghost use Rattle.host_rules.specs.Numbers.{markOf, markNumber, stands};
-ghost use Rattle.host_retry_rules.specs.ReceiverBytes.{receiverIn, receiverBytes};
+ghost use Rattle.host_calls.specs.ReceiverCalls.{beginsReceiver, Arrives, arrives, ArrivesDamaged, arrivesDamaged};
 
 // A fresh receiver with S.
 #[no_mangle]
 pub extern "C" fn buzz_receiver_fresh(size: u32, receiver: &mut [u8; 4]) -> u32
-    ensures { λ r. ⌜ (r ≡ freshReceiverOf size .refusal)
-        × (now (receiver .exit) ≡ stands (freshReceiverOf size .refusal) (now (receiver .entry)) (receiverBytes (freshReceiverOf size .receiver))) ⌝ }
+    ensures { λ r. ⌜ (let after = beginsReceiver size (now (receiver .entry)) in (r ≡ after .refusal) × (now (receiver .exit) ≡ after .lent)) ⌝ }
 {
     let answer = retry_receiver::fresh_receiver(size);
     if answer.refusal != 0 {
@@ -22,7 +17,7 @@ pub extern "C" fn buzz_receiver_fresh(size: u32, receiver: &mut [u8; 4]) -> u32
     0
 }
 
-// A segment that arrives: whether it is delivered, and the reply. What is delivered stands in the front of the output, with the channel, mark and length it came with.
+// A segment that arrives: whether it is delivered, and the reply. What is delivered stands in the front of the output, with its channel, mark and length.
 #[no_mangle]
 pub extern "C" fn buzz_receiver_arrival(
     receiver: &mut [u8; 4],
@@ -33,15 +28,27 @@ pub extern "C" fn buzz_receiver_arrival(
     room: u32,
     output: &mut [u8],
     delivered: &mut u32,
+    delivered_channel: &mut u32,
+    delivered_bad: &mut u32,
+    delivered_length: &mut u32,
     nack: &mut u32,
     reply: &mut u32,
 ) -> u32
-    ensures { λ r. ⌜ (r ≡ arrivalOf (receiverIn (now (receiver .entry))) number channel (markOf bad) (length (now (bytes .entry))) (markOf room) (length (now (output .entry))) .refusal)
-        × (now (receiver .exit) ≡ stands (arrivalOf (receiverIn (now (receiver .entry))) number channel (markOf bad) (length (now (bytes .entry))) (markOf room) (length (now (output .entry))) .refusal) (now (receiver .entry)) (receiverBytes (arrivalOf (receiverIn (now (receiver .entry))) number channel (markOf bad) (length (now (bytes .entry))) (markOf room) (length (now (output .entry))) .receiver)))
-        × (now (delivered .exit) ≡ stands (arrivalOf (receiverIn (now (receiver .entry))) number channel (markOf bad) (length (now (bytes .entry))) (markOf room) (length (now (output .entry))) .refusal) (now (delivered .entry)) (markNumber (arrivalOf (receiverIn (now (receiver .entry))) number channel (markOf bad) (length (now (bytes .entry))) (markOf room) (length (now (output .entry))) .delivered)))
-        × (now (nack .exit) ≡ stands (arrivalOf (receiverIn (now (receiver .entry))) number channel (markOf bad) (length (now (bytes .entry))) (markOf room) (length (now (output .entry))) .refusal) (now (nack .entry)) (markNumber (arrivalOf (receiverIn (now (receiver .entry))) number channel (markOf bad) (length (now (bytes .entry))) (markOf room) (length (now (output .entry))) .nack)))
-        × (now (reply .exit) ≡ stands (arrivalOf (receiverIn (now (receiver .entry))) number channel (markOf bad) (length (now (bytes .entry))) (markOf room) (length (now (output .entry))) .refusal) (now (reply .entry)) (arrivalOf (receiverIn (now (receiver .entry))) number channel (markOf bad) (length (now (bytes .entry))) (markOf room) (length (now (output .entry))) .number))
-        × (now (output .exit) ≡ arrivalOutput (receiverIn (now (receiver .entry))) number channel (now (bytes .entry)) (markOf room) (now (output .entry))) ⌝ }
+    ensures { λ r. ⌜ (let old : Arrives = record {
+      receiver = now (receiver .entry);
+      output = now (output .entry);
+      delivered = now (delivered .entry);
+      channel = now («delivered_channel» .entry);
+      bad = now («delivered_bad» .entry);
+      size = now («delivered_length» .entry);
+      nack = now (nack .entry);
+      reply = now (reply .entry);
+    } in
+        let after = arrives number channel bad (now (bytes .entry)) room old in
+        (r ≡ after .refusal) × (now (receiver .exit) ≡ after .lent .receiver) × (now (output .exit) ≡ after .lent .output)
+        × (now (delivered .exit) ≡ after .lent .delivered) × (now («delivered_channel» .exit) ≡ after .lent .channel)
+        × (now («delivered_bad» .exit) ≡ after .lent .bad) × (now («delivered_length» .exit) ≡ after .lent .size)
+        × (now (nack .exit) ≡ after .lent .nack) × (now (reply .exit) ≡ after .lent .reply)) ⌝ }
 {
     let given = host_retry::receiver_in(*receiver);
     let answer = retry_receiver::arrival(
@@ -59,6 +66,9 @@ pub extern "C" fn buzz_receiver_arrival(
     let next = answer.receiver;
     *receiver = host_retry::receiver_bytes(next);
     *delivered = mark_number(answer.delivered);
+    *delivered_channel = answer.channel as u32;
+    *delivered_bad = mark_number(answer.bad);
+    *delivered_length = answer.length as u32;
     *nack = mark_number(answer.nack);
     *reply = answer.number as u32;
     0
@@ -71,10 +81,9 @@ pub extern "C" fn buzz_receiver_damaged_arrival(
     nack: &mut u32,
     reply: &mut u32,
 ) -> u32
-    ensures { λ r. ⌜ (r ≡ damagedArrivalOf (receiverIn (now (receiver .entry))) .refusal)
-        × (now (receiver .exit) ≡ stands (damagedArrivalOf (receiverIn (now (receiver .entry))) .refusal) (now (receiver .entry)) (receiverBytes (damagedArrivalOf (receiverIn (now (receiver .entry))) .receiver)))
-        × (now (nack .exit) ≡ stands (damagedArrivalOf (receiverIn (now (receiver .entry))) .refusal) (now (nack .entry)) (markNumber (damagedArrivalOf (receiverIn (now (receiver .entry))) .nack)))
-        × (now (reply .exit) ≡ stands (damagedArrivalOf (receiverIn (now (receiver .entry))) .refusal) (now (reply .entry)) (damagedArrivalOf (receiverIn (now (receiver .entry))) .number)) ⌝ }
+    ensures { λ r. ⌜ (let old : ArrivesDamaged = record { receiver = now (receiver .entry); nack = now (nack .entry); reply = now (reply .entry) } in
+        let after = arrivesDamaged old in
+        (r ≡ after .refusal) × (now (receiver .exit) ≡ after .lent .receiver) × (now (nack .exit) ≡ after .lent .nack) × (now (reply .exit) ≡ after .lent .reply)) ⌝ }
 {
     let given = host_retry::receiver_in(*receiver);
     let answer = retry_receiver::damaged_arrival(given);

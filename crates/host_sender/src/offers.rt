@@ -1,11 +1,7 @@
 // Offers and sends: the eight buffers are one lent run of 8 times S bytes.
 use host_marks::mark_number;
 ghost use mathlib.Core.Path.{_≡_};
-ghost use lib.ListN.{length};
-ghost use Rattle.retry_rules.specs.Offer.{offerOf, offerBuffers};
-ghost use Rattle.retry_rules.specs.Send.{sendOf, sendOutput};
-ghost use Rattle.host_rules.specs.Numbers.{markOf, markNumber, stands};
-ghost use Rattle.host_retry_rules.specs.SenderBytes.{senderIn, senderBytes};
+ghost use Rattle.host_calls.specs.SenderCalls.{Offers, offers, Sends, sends};
 
 // A segment stored, with the number that it has.
 #[no_mangle]
@@ -17,10 +13,10 @@ pub extern "C" fn buzz_sender_offer(
     bytes: &[u8],
     number: &mut u32,
 ) -> u32
-    ensures { λ r. ⌜ (r ≡ offerOf (senderIn (now (sender .entry))) (length (now (buffers .entry))) channel (markOf bad) (length (now (bytes .entry))) .refusal)
-        × (now (sender .exit) ≡ stands (offerOf (senderIn (now (sender .entry))) (length (now (buffers .entry))) channel (markOf bad) (length (now (bytes .entry))) .refusal) (now (sender .entry)) (senderBytes (offerOf (senderIn (now (sender .entry))) (length (now (buffers .entry))) channel (markOf bad) (length (now (bytes .entry))) .sender)))
-        × (now (number .exit) ≡ stands (offerOf (senderIn (now (sender .entry))) (length (now (buffers .entry))) channel (markOf bad) (length (now (bytes .entry))) .refusal) (now (number .entry)) (offerOf (senderIn (now (sender .entry))) (length (now (buffers .entry))) channel (markOf bad) (length (now (bytes .entry))) .number))
-        × (now (buffers .exit) ≡ offerBuffers (senderIn (now (sender .entry))) (now (buffers .entry)) channel (now (bytes .entry))) ⌝ }
+    ensures { λ r. ⌜ (let old : Offers = record { sender = now (sender .entry); buffers = now (buffers .entry); number = now (number .entry) } in
+        let after = offers channel bad (now (bytes .entry)) old in
+        (r ≡ after .refusal) × (now (sender .exit) ≡ after .lent .sender) × (now (buffers .exit) ≡ after .lent .buffers)
+        × (now (number .exit) ≡ after .lent .number)) ⌝ }
 {
     let given = host_retry::sender_in(*sender);
     let answer = retry_buffers::offer(given, buffers, channel, bad != 0, bytes);
@@ -45,14 +41,19 @@ pub extern "C" fn buzz_sender_send(
     bad: &mut u32,
     bytes: &mut u32,
 ) -> u32
-    ensures { λ r. ⌜ (r ≡ sendOf (senderIn (now (sender .entry))) (length (now (buffers .entry))) (length (now (output .entry))) .refusal)
-        × (now (sender .exit) ≡ stands (sendOf (senderIn (now (sender .entry))) (length (now (buffers .entry))) (length (now (output .entry))) .refusal) (now (sender .entry)) (senderBytes (sendOf (senderIn (now (sender .entry))) (length (now (buffers .entry))) (length (now (output .entry))) .sender)))
-        × (now (sent .exit) ≡ stands (sendOf (senderIn (now (sender .entry))) (length (now (buffers .entry))) (length (now (output .entry))) .refusal) (now (sent .entry)) (markNumber (sendOf (senderIn (now (sender .entry))) (length (now (buffers .entry))) (length (now (output .entry))) .sent)))
-        × (now (number .exit) ≡ stands (sendOf (senderIn (now (sender .entry))) (length (now (buffers .entry))) (length (now (output .entry))) .refusal) (now (number .entry)) (sendOf (senderIn (now (sender .entry))) (length (now (buffers .entry))) (length (now (output .entry))) .number))
-        × (now (channel .exit) ≡ stands (sendOf (senderIn (now (sender .entry))) (length (now (buffers .entry))) (length (now (output .entry))) .refusal) (now (channel .entry)) (sendOf (senderIn (now (sender .entry))) (length (now (buffers .entry))) (length (now (output .entry))) .channel))
-        × (now (bad .exit) ≡ stands (sendOf (senderIn (now (sender .entry))) (length (now (buffers .entry))) (length (now (output .entry))) .refusal) (now (bad .entry)) (markNumber (sendOf (senderIn (now (sender .entry))) (length (now (buffers .entry))) (length (now (output .entry))) .bad)))
-        × (now (bytes .exit) ≡ stands (sendOf (senderIn (now (sender .entry))) (length (now (buffers .entry))) (length (now (output .entry))) .refusal) (now (bytes .entry)) (sendOf (senderIn (now (sender .entry))) (length (now (buffers .entry))) (length (now (output .entry))) .length))
-        × (now (output .exit) ≡ sendOutput (senderIn (now (sender .entry))) (now (buffers .entry)) (now (output .entry))) ⌝ }
+    ensures { λ r. ⌜ (let old : Sends = record {
+      sender = now (sender .entry);
+      output = now (output .entry);
+      sent = now (sent .entry);
+      number = now (number .entry);
+      channel = now (channel .entry);
+      bad = now (bad .entry);
+      size = now (bytes .entry);
+    } in
+        let after = sends (now (buffers .entry)) old in
+        (r ≡ after .refusal) × (now (sender .exit) ≡ after .lent .sender) × (now (output .exit) ≡ after .lent .output)
+        × (now (sent .exit) ≡ after .lent .sent) × (now (number .exit) ≡ after .lent .number) × (now (channel .exit) ≡ after .lent .channel)
+        × (now (bad .exit) ≡ after .lent .bad) × (now (bytes .exit) ≡ after .lent .size)) ⌝ }
 {
     let given = host_retry::sender_in(*sender);
     let answer = retry_buffers::send(given, buffers, output);

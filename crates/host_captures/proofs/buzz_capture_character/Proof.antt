@@ -4,6 +4,7 @@ use mathlib.Core.Path.{_≡_, refl, sym, ap, _∙_}
 use native.Mathlib.Omega.{arith}
 use Rattle.capture_rules.specs.Calls.{says}
 use Rattle.host_rules.proofs.Captures.{character-answered}
+use Rattle.host_calls.proofs.CaptureLaws.{find-done, find-refused}
 use borrow.Author.Needs.{needs}
 use Rattle.host_captures.proofs.buzz_capture_character.Statement.{statement}
 use Rattle.host_captures.proofs.buzz_capture_character.Tie as tie
@@ -24,10 +25,14 @@ cast-result : tie.Need-cast-result
 cast-result c = search needs
 
 returns : tie.Need-returns
-returns c = let h = sym (ap says (c .before .answer .given .1)) ∙ c .before .before .before .character-at .ensures in rw (← h) (refl, refl)
+returns c =
+    let h = sym (ap says (c .before .answer .given .1)) ∙ c .before .before .before .character-at .ensures in
+    rw (find-done _ (c .before .before .before .before .before .args .character .now) _ _ h) (refl, refl)
 
 returns-2 : tie.Need-returns-2
-returns-2 c = let h = sym (ap says (c .before .answer2 .given .1)) ∙ c .before .before .before .character-at .ensures in rw (← h) (refl, refl)
+returns-2 c =
+    let h = sym (ap says (c .before .answer2 .given .1)) ∙ c .before .before .before .character-at .ensures in
+    rw (find-refused _ (c .before .before .before .before .before .args .character .now) _ _ h) (refl, refl)
 
 pub buzz-capture-character-spec : {M : Type 1} → statement M
 buzz-capture-character-spec =

@@ -2,6 +2,8 @@
 -- Assumes nothing.
 use mathlib.Core.Path.{_≡_, refl, sym, ap, _∙_}
 use Rattle.capture_rules.specs.Calls.{says}
+use Rattle.host_calls.specs.CaptureCalls.{Unpacks}
+use Rattle.host_calls.proofs.CaptureLaws.{unpack-done, unpack-refused}
 use borrow.Author.Needs.{needs}
 use Rattle.host_captures.proofs.buzz_unpack.Statement.{statement}
 use Rattle.host_captures.proofs.buzz_unpack.Tie as tie
@@ -22,13 +24,21 @@ same-length : tie.Need-same-length
 same-length c = search needs
 
 returns : tie.Need-returns
-returns c = let h = sym (ap says (c .before .answer .given .1)) ∙ c .before .before .before .before .before .unpack .ensures .0 in rw (← h) (refl, refl, c .before .before .before .before .before .unpack .ensures .1)
+returns c =
+    let a = c .before .before .before .before .before .before .before .before .before .args in
+    let old : Unpacks = record { characters = a .characters .now; count = a .count .now } in
+    let h = sym (ap says (c .before .answer .given .1)) ∙ c .before .before .before .before .before .unpack .ensures .0 in
+    rw (unpack-done (a .capture .now) old _ h) (refl, c .before .before .before .before .before .unpack .ensures .1, refl)
 
 same-length-2 : tie.Need-same-length-2
 same-length-2 c = search needs
 
 returns-2 : tie.Need-returns-2
-returns-2 c = let h = sym (ap says (c .before .answer2 .given .1)) ∙ c .before .before .before .before .before .unpack .ensures .0 in rw (← h) (refl, refl, c .before .before .before .before .before .unpack .ensures .1)
+returns-2 c =
+    let a = c .before .before .before .before .before .before .before .before .before .args in
+    let old : Unpacks = record { characters = a .characters .now; count = a .count .now } in
+    let h = sym (ap says (c .before .answer2 .given .1)) ∙ c .before .before .before .before .before .unpack .ensures .0 in
+    rw (unpack-refused (a .capture .now) old _ h) (refl, c .before .before .before .before .before .unpack .ensures .1, refl)
 
 pub buzz-unpack-spec : {M : Type 1} → statement M
 buzz-unpack-spec =

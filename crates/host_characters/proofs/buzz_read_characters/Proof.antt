@@ -1,11 +1,13 @@
 -- The answer taken apart: the disparity after the run, or a refusal.
 -- Assumes nothing.
 use mathlib.Core.Path.{_≡_, refl, sym, ap, _∙_}
-use Rattle.host_rules.proofs.Signed.{same}
 use lib.IntN.{ℤ}
 use lib.ListN.{length}
 use Rattle.character_rules.specs.Answers.{runSays}
 use Rattle.character_rules.specs.Results.{runReading, runOutput}
+use Rattle.host_rules.proofs.Signed.{same}
+use Rattle.host_calls.specs.CharacterCalls.{ReadsRun}
+use Rattle.host_calls.proofs.CharacterLaws.{run-done, run-refused}
 use borrow.Author.Needs.{needs}
 use Rattle.host_characters.proofs.buzz_read_characters.Statement.{statement}
 use Rattle.host_characters.proofs.buzz_read_characters.Tie as tie
@@ -27,16 +29,24 @@ same-length c = search needs
 
 returns : tie.Need-returns
 returns c =
-    let h = sym (ap runSays (c .before .answer .given .1)) ∙ c .before .before .before .before .before .read-run .ensures .0 ∙ ap (λ (d : ℤ). runReading (c .before .before .before .before .before .before .before .before .before .before .args .characters .now) d (length (c .before .before .before .before .before .before .before .before .before .before .args .results .now))) (same (c .before .before .before .before .before .before .before .before .before .before .args .disparity .now) (c .before .before .before .before .before .before .before .read-run-arg .given)) in
-    rw (← h) (refl, same _ (c .known-told .given .0 .1), c .before .before .before .before .before .read-run .ensures .1 ∙ ap (λ (d : ℤ). runOutput (c .before .before .before .before .before .before .before .before .before .before .args .characters .now) d (c .before .before .before .before .before .before .before .before .before .before .args .results .now)) (same (c .before .before .before .before .before .before .before .before .before .before .args .disparity .now) (c .before .before .before .before .before .before .before .read-run-arg .given)))
+    let a = c .before .before .before .before .before .before .before .before .before .before .args in
+    let old : ReadsRun = record { disparity = a .disparity .now; results = a .results .now } in
+    let d = same (a .disparity .now) (c .before .before .before .before .before .before .before .read-run-arg .given) in
+    let h = sym (ap runSays (c .before .answer .given .1)) ∙ c .before .before .before .before .before .read-run .ensures .0 ∙ ap (λ (d : ℤ). runReading (a .characters .now) d (length (a .results .now))) d in
+    let results = c .before .before .before .before .before .read-run .ensures .1 ∙ ap (λ (d : ℤ). runOutput (a .characters .now) d (a .results .now)) d in
+    rw (run-done _ old _ h) (refl, same _ (c .known-told .given .0 .1), results)
 
 same-length-2 : tie.Need-same-length-2
 same-length-2 c = search needs
 
 returns-2 : tie.Need-returns-2
 returns-2 c =
-    let h = sym (ap runSays (c .before .answer2 .given .1)) ∙ c .before .before .before .before .before .read-run .ensures .0 ∙ ap (λ (d : ℤ). runReading (c .before .before .before .before .before .before .before .before .before .before .args .characters .now) d (length (c .before .before .before .before .before .before .before .before .before .before .args .results .now))) (same (c .before .before .before .before .before .before .before .before .before .before .args .disparity .now) (c .before .before .before .before .before .before .before .read-run-arg .given)) in
-    rw (← h) (refl, refl, c .before .before .before .before .before .read-run .ensures .1 ∙ ap (λ (d : ℤ). runOutput (c .before .before .before .before .before .before .before .before .before .before .args .characters .now) d (c .before .before .before .before .before .before .before .before .before .before .args .results .now)) (same (c .before .before .before .before .before .before .before .before .before .before .args .disparity .now) (c .before .before .before .before .before .before .before .read-run-arg .given)))
+    let a = c .before .before .before .before .before .before .before .before .before .before .args in
+    let old : ReadsRun = record { disparity = a .disparity .now; results = a .results .now } in
+    let d = same (a .disparity .now) (c .before .before .before .before .before .before .before .read-run-arg .given) in
+    let h = sym (ap runSays (c .before .answer2 .given .1)) ∙ c .before .before .before .before .before .read-run .ensures .0 ∙ ap (λ (d : ℤ). runReading (a .characters .now) d (length (a .results .now))) d in
+    let results = c .before .before .before .before .before .read-run .ensures .1 ∙ ap (λ (d : ℤ). runOutput (a .characters .now) d (a .results .now)) d in
+    rw (run-refused _ old _ h) (refl, refl, results)
 
 pub buzz-read-characters-spec : {M : Type 1} → statement M
 buzz-read-characters-spec =

@@ -2,6 +2,7 @@
 -- Assumes nothing.
 use mathlib.Core.Path.{_≡_, refl, sym, ap, _∙_}
 use Rattle.packet_rules.specs.Answers.{freshSays}
+use Rattle.host_calls.proofs.PacketLaws.{begin-done, begin-refused}
 use borrow.Author.Needs.{needs}
 use Rattle.host_packets.proofs.readers.buzz_reader_fresh.Statement.{statement}
 use Rattle.host_packets.proofs.readers.buzz_reader_fresh.Tie as tie
@@ -22,10 +23,14 @@ cast-result : tie.Need-cast-result
 cast-result c = search needs
 
 returns : tie.Need-returns
-returns c = let h = sym (ap freshSays (c .before .before .answer .given .1)) ∙ c .before .before .before .before .fresh .ensures in rw (← h) (refl, c .reader-bytes .ensures)
+returns c =
+    let h = sym (ap freshSays (c .before .before .answer .given .1)) ∙ c .before .before .before .before .fresh .ensures in
+    rw (begin-done _ (c .before .before .before .before .before .args .reader .now) _ h) (refl, c .reader-bytes .ensures)
 
 returns-2 : tie.Need-returns-2
-returns-2 c = let h = sym (ap freshSays (c .before .answer2 .given .1)) ∙ c .before .before .before .fresh .ensures in rw (← h) (refl, refl)
+returns-2 c =
+    let h = sym (ap freshSays (c .before .answer2 .given .1)) ∙ c .before .before .before .fresh .ensures in
+    rw (begin-refused _ (c .before .before .before .before .args .reader .now) _ h) (refl, refl)
 
 pub buzz-reader-fresh-spec : {M : Type 1} → statement M
 buzz-reader-fresh-spec =

@@ -1,11 +1,11 @@
 -- A refusal leaves all as it stood; else the new state's bytes, and what the answer says.
 -- Assumes nothing.
 use mathlib.Core.Path.{_≡_, refl, sym, ap, _∙_}
-use Rattle.host_rules.proofs.Numbers.{stands-old, stands-new}
-use Rattle.retry_rules.specs.Send.{sendOf, sendOutput}
-use Rattle.retry_rules.specs.declared.Sender.{Sender}
-use Rattle.host_retry_rules.specs.SenderBytes.{senderIn, senderBytes}
 use lib.ListN.{length}
+use Rattle.retry_rules.specs.declared.Sender.{Sender}
+use Rattle.retry_rules.specs.Send.{sendOf, sendOutput}
+use Rattle.host_calls.specs.SenderCalls.{Sends}
+use Rattle.host_calls.proofs.SenderLaws.{send-refused, send-done}
 use borrow.Author.Needs.{needs}
 use Rattle.host_sender.proofs.offers.buzz_sender_send.Statement.{statement}
 use Rattle.host_sender.proofs.offers.buzz_sender_send.Tie as tie
@@ -24,8 +24,12 @@ same-length c = search needs
 
 returns : tie.Need-returns
 returns c =
-    let h = c .before .before .before .before .before .send .ensures .0 ∙ ap (λ (s : Sender). sendOf s (length (c .before .before .before .before .before .before .before .before .before .before .before .args .buffers .now)) (length (c .before .before .before .before .before .before .before .before .before .before .before .args .output .now))) (c .before .before .before .before .before .before .before .sender-in .ensures) in
-    rw (← h) (refl, sym (stands-old _ _ _ (c .before .if1 .taken)), sym (stands-old _ _ _ (c .before .if1 .taken)), sym (stands-old _ _ _ (c .before .if1 .taken)), sym (stands-old _ _ _ (c .before .if1 .taken)), sym (stands-old _ _ _ (c .before .if1 .taken)), sym (stands-old _ _ _ (c .before .if1 .taken)), c .before .before .before .before .before .send .ensures .1 ∙ ap (λ (s : Sender). sendOutput s (c .before .before .before .before .before .before .before .before .before .before .before .args .buffers .now) (c .before .before .before .before .before .before .before .before .before .before .before .args .output .now)) (c .before .before .before .before .before .before .before .sender-in .ensures))
+    let a = c .before .before .before .before .before .before .before .before .before .before .before .args in
+    let old : Sends = record { sender = a .sender .now; output = a .output .now; sent = a .sent .now; number = a .number .now; channel = a .channel .now; bad = a .bad .now; size = a .bytes .now } in
+    let given = c .before .before .before .before .before .before .before .sender-in .ensures in
+    let h = c .before .before .before .before .before .send .ensures .0 ∙ ap (λ (s : Sender). sendOf s (length (a .buffers .now)) (length (a .output .now))) given in
+    let output = c .before .before .before .before .before .send .ensures .1 ∙ ap (λ (s : Sender). sendOutput s (a .buffers .now) (a .output .now)) given in
+    rw (send-refused (a .buffers .now) old _ h (c .before .if1 .taken)) (refl, refl, output, refl, refl, refl, refl, refl)
 
 sender-bytes-requires : tie.Need-sender-bytes-requires
 sender-bytes-requires c κs = search needs
@@ -50,8 +54,14 @@ same-length-2 c = search needs
 
 returns-2 : tie.Need-returns-2
 returns-2 c =
-    let h = c .before .before .before .before .before .before .before .before .before .before .before .send .ensures .0 ∙ ap (λ (s : Sender). sendOf s (length (c .before .before .before .before .before .before .before .before .before .before .before .before .before .before .before .before .before .args .buffers .now)) (length (c .before .before .before .before .before .before .before .before .before .before .before .before .before .before .before .before .before .args .output .now))) (c .before .before .before .before .before .before .before .before .before .before .before .before .before .sender-in .ensures) in
-    rw (← h) (sym (c .before .before .before .before .before .before .before .if1 .left), c .before .before .before .before .before .sender-bytes .ensures ∙ sym (stands-new _ _ _ (c .before .before .before .before .before .before .before .if1 .left)), c .before .before .before .before .mark-number .ensures ∙ sym (stands-new _ _ _ (c .before .before .before .before .before .before .before .if1 .left)), sym (stands-new _ _ _ (c .before .before .before .before .before .before .before .if1 .left)), sym (stands-new _ _ _ (c .before .before .before .before .before .before .before .if1 .left)), c .before .mark-number2 .ensures ∙ sym (stands-new _ _ _ (c .before .before .before .before .before .before .before .if1 .left)), sym (stands-new _ _ _ (c .before .before .before .before .before .before .before .if1 .left)), c .before .before .before .before .before .before .before .before .before .before .before .send .ensures .1 ∙ ap (λ (s : Sender). sendOutput s (c .before .before .before .before .before .before .before .before .before .before .before .before .before .before .before .before .before .args .buffers .now) (c .before .before .before .before .before .before .before .before .before .before .before .before .before .before .before .before .before .args .output .now)) (c .before .before .before .before .before .before .before .before .before .before .before .before .before .sender-in .ensures))
+    let a = c .before .before .before .before .before .before .before .before .before .before .before .before .before .before .before .before .before .args in
+    let old : Sends = record { sender = a .sender .now; output = a .output .now; sent = a .sent .now; number = a .number .now; channel = a .channel .now; bad = a .bad .now; size = a .bytes .now } in
+    let given = c .before .before .before .before .before .before .before .before .before .before .before .before .before .sender-in .ensures in
+    let h = c .before .before .before .before .before .before .before .before .before .before .before .send .ensures .0 ∙ ap (λ (s : Sender). sendOf s (length (a .buffers .now)) (length (a .output .now))) given in
+    let output = c .before .before .before .before .before .before .before .before .before .before .before .send .ensures .1 ∙ ap (λ (s : Sender). sendOutput s (a .buffers .now) (a .output .now)) given in
+    let done = c .before .before .before .before .before .before .before .if1 .left in
+    rw (send-done (a .buffers .now) old _ h done)
+    (sym done, c .before .before .before .before .before .sender-bytes .ensures, output, c .before .before .before .before .mark-number .ensures, refl, refl, c .before .mark-number2 .ensures, refl)
 
 pub buzz-sender-send-spec : {M : Type 1} → statement M
 buzz-sender-send-spec =

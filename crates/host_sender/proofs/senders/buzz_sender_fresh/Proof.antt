@@ -1,8 +1,7 @@
 -- A refusal leaves all as it stood; else the new state's bytes, and what the answer says.
 -- Assumes nothing.
 use mathlib.Core.Path.{_≡_, refl, sym, ap, _∙_}
-use Rattle.host_rules.proofs.Numbers.{stands-old, stands-new}
-use Rattle.retry_rules.specs.Fresh.{freshSenderOf}
+use Rattle.host_calls.proofs.SenderLaws.{begin-refused, begin-done}
 use borrow.Author.Needs.{needs}
 use Rattle.host_sender.proofs.senders.buzz_sender_fresh.Statement.{statement}
 use Rattle.host_sender.proofs.senders.buzz_sender_fresh.Tie as tie
@@ -15,16 +14,15 @@ cast-result c = search needs
 
 returns : tie.Need-returns
 returns c =
-    let h = c .before .before .before .fresh-sender .ensures in
-    rw (← h) (refl, sym (stands-old _ _ _ (c .before .if1 .taken)))
+    rw (begin-refused _ _ _ _ (c .before .before .before .fresh-sender .ensures) (c .before .if1 .taken)) (refl, refl)
 
 sender-bytes-requires : tie.Need-sender-bytes-requires
 sender-bytes-requires c κs = search needs
 
 returns-2 : tie.Need-returns-2
 returns-2 c =
-    let h = c .before .before .before .before .fresh-sender .ensures in
-    rw (← h) (sym (c .before .before .if1 .left), c .sender-bytes .ensures ∙ sym (stands-new _ _ _ (c .before .before .if1 .left)))
+    rw (begin-done _ _ _ _ (c .before .before .before .before .fresh-sender .ensures) (c .before .before .if1 .left))
+    (sym (c .before .before .if1 .left), c .sender-bytes .ensures)
 
 pub buzz-sender-fresh-spec : {M : Type 1} → statement M
 buzz-sender-fresh-spec =

@@ -1,10 +1,9 @@
 -- A refusal leaves all as it stood; else the new state's bytes, and what the answer says.
 -- Assumes nothing.
 use mathlib.Core.Path.{_≡_, refl, sym, ap, _∙_}
-use Rattle.host_rules.proofs.Numbers.{stands-old, stands-new}
 use Rattle.retry_rules.specs.Tick.{tickOf}
-use Rattle.retry_rules.specs.declared.Sender.{Sender}
-use Rattle.host_retry_rules.specs.SenderBytes.{senderIn, senderBytes}
+use Rattle.host_calls.specs.SenderCalls.{Ticks}
+use Rattle.host_calls.proofs.SenderLaws.{tick-refused, tick-done}
 use borrow.Author.Needs.{needs}
 use Rattle.host_sender.proofs.senders.buzz_sender_tick.Statement.{statement}
 use Rattle.host_sender.proofs.senders.buzz_sender_tick.Tie as tie
@@ -20,8 +19,10 @@ cast-result c = search needs
 
 returns : tie.Need-returns
 returns c =
-    let h = c .before .before .before .tick .ensures ∙ ap (λ (s : Sender). tickOf s) (c .before .before .before .before .sender-in .ensures) in
-    rw (← h) (refl, sym (stands-old _ _ _ (c .before .if1 .taken)), sym (stands-old _ _ _ (c .before .if1 .taken)))
+    let a = c .before .before .before .before .before .before .args in
+    let old : Ticks = record { sender = a .sender .now; fell = a .fell .now } in
+    let h = c .before .before .before .tick .ensures ∙ ap tickOf (c .before .before .before .before .sender-in .ensures) in
+    rw (tick-refused old _ h (c .before .if1 .taken)) (refl, refl, refl)
 
 sender-bytes-requires : tie.Need-sender-bytes-requires
 sender-bytes-requires c κs = search needs
@@ -31,8 +32,10 @@ mark-number-requires c κs = search needs
 
 returns-2 : tie.Need-returns-2
 returns-2 c =
-    let h = c .before .before .before .before .before .tick .ensures ∙ ap (λ (s : Sender). tickOf s) (c .before .before .before .before .before .before .sender-in .ensures) in
-    rw (← h) (sym (c .before .before .before .if1 .left), c .before .sender-bytes .ensures ∙ sym (stands-new _ _ _ (c .before .before .before .if1 .left)), c .mark-number .ensures ∙ sym (stands-new _ _ _ (c .before .before .before .if1 .left)))
+    let a = c .before .before .before .before .before .before .before .before .args in
+    let old : Ticks = record { sender = a .sender .now; fell = a .fell .now } in
+    let h = c .before .before .before .before .before .tick .ensures ∙ ap tickOf (c .before .before .before .before .before .before .sender-in .ensures) in
+    rw (tick-done old _ h (c .before .before .before .if1 .left)) (sym (c .before .before .before .if1 .left), c .before .sender-bytes .ensures, c .mark-number .ensures)
 
 pub buzz-sender-tick-spec : {M : Type 1} → statement M
 buzz-sender-tick-spec =
