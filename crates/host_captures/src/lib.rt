@@ -10,8 +10,8 @@ pub extern "C" fn buzz_capture_count(capture: &[u8], count: &mut usize) -> u32
 {
     let answer = capture::character_count(capture);
     match answer {
-        Answer::Number(n) => {
-            *count = n;
+        Answer::Number(held) => {
+            *count = held;
             0
         }
         Answer::Refused(n) => n as u32,
@@ -25,8 +25,8 @@ pub extern "C" fn buzz_capture_character(capture: &[u8], place: usize, character
 {
     let answer = capture::character_at(capture, place);
     match answer {
-        Answer::Number(n) => {
-            *character = n as u32;
+        Answer::Number(found) => {
+            *character = found as u32;
             0
         }
         Answer::Refused(n) => n as u32,
@@ -41,8 +41,8 @@ pub extern "C" fn buzz_pack(characters: &[u16], capture: &mut [u8], bytes: &mut 
 {
     let answer = capture::pack(characters, capture);
     match answer {
-        Answer::Number(n) => {
-            *bytes = n;
+        Answer::Number(packed) => {
+            *bytes = packed;
             0
         }
         Answer::Refused(n) => n as u32,
@@ -57,8 +57,8 @@ pub extern "C" fn buzz_unpack(capture: &[u8], characters: &mut [u16], count: &mu
 {
     let answer = capture::unpack(capture, characters);
     match answer {
-        Answer::Number(n) => {
-            *count = n;
+        Answer::Number(unpacked) => {
+            *count = unpacked;
             0
         }
         Answer::Refused(n) => n as u32,

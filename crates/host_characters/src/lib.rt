@@ -92,8 +92,8 @@ pub extern "C" fn buzz_read_characters(
 {
     let answer = character::reader::read_run(characters, *disparity, results);
     match answer {
-        RunRead::Read(d) => {
-            *disparity = d;
+        RunRead::Read(closing) => {
+            *disparity = closing;
             0
         }
         RunRead::Refused(n) => n as u32,

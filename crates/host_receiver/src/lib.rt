@@ -8,11 +8,11 @@ ghost use Rattle.host_calls.specs.ReceiverCalls.{beginsReceiver, Arrives, arriv
 pub extern "C" fn buzz_receiver_fresh(size: u32, receiver: &mut [u8; 4]) -> u32
     ensures { λ r. ⌜ (let after = beginsReceiver size (now (receiver .entry)) in (r ≡ after .refusal) × (now (receiver .exit) ≡ after .lent)) ⌝ }
 {
-    let answer = retry_receiver::fresh_receiver(size);
-    if answer.refusal != 0 {
-        return answer.refusal as u32;
+    let made = retry_receiver::fresh_receiver(size);
+    if made.refusal != 0 {
+        return made.refusal as u32;
     }
-    let next = answer.receiver;
+    let next = made.receiver;
     *receiver = host_retry::receiver_bytes(next);
     0
 }
@@ -51,7 +51,7 @@ pub extern "C" fn buzz_receiver_arrival(
         × (now (nack .exit) ≡ after .lent .nack) × (now (reply .exit) ≡ after .lent .reply)) ⌝ }
 {
     let given = host_retry::receiver_in(*receiver);
-    let answer = retry_receiver::arrival(
+    let arrived = retry_receiver::arrival(
         given,
         number,
         channel,
@@ -60,17 +60,17 @@ pub extern "C" fn buzz_receiver_arrival(
         room != 0,
         output,
     );
-    if answer.refusal != 0 {
-        return answer.refusal as u32;
+    if arrived.refusal != 0 {
+        return arrived.refusal as u32;
     }
-    let next = answer.receiver;
+    let next = arrived.receiver;
     *receiver = host_retry::receiver_bytes(next);
-    *delivered = mark_number(answer.delivered);
-    *delivered_channel = answer.channel as u32;
-    *delivered_bad = mark_number(answer.bad);
-    *delivered_length = answer.length as u32;
-    *nack = mark_number(answer.nack);
-    *reply = answer.number as u32;
+    *delivered = mark_number(arrived.delivered);
+    *delivered_channel = arrived.channel as u32;
+    *delivered_bad = mark_number(arrived.bad);
+    *delivered_length = arrived.length as u32;
+    *nack = mark_number(arrived.nack);
+    *reply = arrived.number as u32;
     0
 }
 
@@ -86,13 +86,13 @@ pub extern "C" fn buzz_receiver_damaged_arrival(
         (r ≡ after .refusal) × (now (receiver .exit) ≡ after .lent .receiver) × (now (nack .exit) ≡ after .lent .nack) × (now (reply .exit) ≡ after .lent .reply)) ⌝ }
 {
     let given = host_retry::receiver_in(*receiver);
-    let answer = retry_receiver::damaged_arrival(given);
-    if answer.refusal != 0 {
-        return answer.refusal as u32;
+    let dropped = retry_receiver::damaged_arrival(given);
+    if dropped.refusal != 0 {
+        return dropped.refusal as u32;
     }
-    let next = answer.receiver;
+    let next = dropped.receiver;
     *receiver = host_retry::receiver_bytes(next);
-    *nack = mark_number(answer.nack);
-    *reply = answer.number as u32;
+    *nack = mark_number(dropped.nack);
+    *reply = dropped.number as u32;
     0
 }

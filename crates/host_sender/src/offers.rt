@@ -19,13 +19,13 @@ pub extern "C" fn buzz_sender_offer(
         × (now (number .exit) ≡ after .lent .number)) ⌝ }
 {
     let given = host_retry::sender_in(*sender);
-    let answer = retry_buffers::offer(given, buffers, channel, bad != 0, bytes);
-    if answer.refusal != 0 {
-        return answer.refusal as u32;
+    let offered = retry_buffers::offer(given, buffers, channel, bad != 0, bytes);
+    if offered.refusal != 0 {
+        return offered.refusal as u32;
     }
-    let next = answer.sender;
+    let next = offered.sender;
     *sender = host_retry::sender_bytes(next);
-    *number = answer.number as u32;
+    *number = offered.number as u32;
     0
 }
 
@@ -56,16 +56,16 @@ pub extern "C" fn buzz_sender_send(
         × (now (bad .exit) ≡ after .lent .bad) × (now (bytes .exit) ≡ after .lent .size)) ⌝ }
 {
     let given = host_retry::sender_in(*sender);
-    let answer = retry_buffers::send(given, buffers, output);
-    if answer.refusal != 0 {
-        return answer.refusal as u32;
+    let gone = retry_buffers::send(given, buffers, output);
+    if gone.refusal != 0 {
+        return gone.refusal as u32;
     }
-    let next = answer.sender;
+    let next = gone.sender;
     *sender = host_retry::sender_bytes(next);
-    *sent = mark_number(answer.sent);
-    *number = answer.number as u32;
-    *channel = answer.channel as u32;
-    *bad = mark_number(answer.bad);
-    *bytes = answer.length as u32;
+    *sent = mark_number(gone.sent);
+    *number = gone.number as u32;
+    *channel = gone.channel as u32;
+    *bad = mark_number(gone.bad);
+    *bytes = gone.length as u32;
     0
 }

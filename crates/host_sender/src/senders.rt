@@ -8,11 +8,11 @@ ghost use Rattle.host_calls.specs.SenderCalls.{beginsSender, resets, hears, hea
 pub extern "C" fn buzz_sender_fresh(columns: u32, size: u32, sender: &mut [u8; 38]) -> u32
     ensures { λ r. ⌜ (let after = beginsSender columns size (now (sender .entry)) in (r ≡ after .refusal) × (now (sender .exit) ≡ after .lent)) ⌝ }
 {
-    let answer = retry_state::beginning::fresh_sender(columns, size);
-    if answer.refusal != 0 {
-        return answer.refusal as u32;
+    let made = retry_state::beginning::fresh_sender(columns, size);
+    if made.refusal != 0 {
+        return made.refusal as u32;
     }
-    let next = answer.sender;
+    let next = made.sender;
     *sender = host_retry::sender_bytes(next);
     0
 }
@@ -23,11 +23,11 @@ pub extern "C" fn buzz_sender_reset(sender: &mut [u8; 38], columns: u32, size: u
     ensures { λ r. ⌜ (let after = resets columns size (now (sender .entry)) in (r ≡ after .refusal) × (now (sender .exit) ≡ after .lent)) ⌝ }
 {
     let given = host_retry::sender_in(*sender);
-    let answer = retry_state::beginning::reset(given, columns, size);
-    if answer.refusal != 0 {
-        return answer.refusal as u32;
+    let begun = retry_state::beginning::reset(given, columns, size);
+    if begun.refusal != 0 {
+        return begun.refusal as u32;
     }
-    let next = answer.sender;
+    let next = begun.sender;
     *sender = host_retry::sender_bytes(next);
     0
 }
@@ -38,11 +38,11 @@ pub extern "C" fn buzz_sender_reply(sender: &mut [u8; 38], nack: u32, number: u3
     ensures { λ r. ⌜ (let after = hears nack number (now (sender .entry)) in (r ≡ after .refusal) × (now (sender .exit) ≡ after .lent)) ⌝ }
 {
     let given = host_retry::sender_in(*sender);
-    let answer = retry_replies::replies::reply(given, nack != 0, number);
-    if answer.refusal != 0 {
-        return answer.refusal as u32;
+    let heard = retry_replies::replies::reply(given, nack != 0, number);
+    if heard.refusal != 0 {
+        return heard.refusal as u32;
     }
-    let next = answer.sender;
+    let next = heard.sender;
     *sender = host_retry::sender_bytes(next);
     0
 }
@@ -53,11 +53,11 @@ pub extern "C" fn buzz_sender_damaged_reply(sender: &mut [u8; 38]) -> u32
     ensures { λ r. ⌜ (let after = hearsDamaged (now (sender .entry)) in (r ≡ after .refusal) × (now (sender .exit) ≡ after .lent)) ⌝ }
 {
     let given = host_retry::sender_in(*sender);
-    let answer = retry_replies::replies::damaged_reply(given);
-    if answer.refusal != 0 {
-        return answer.refusal as u32;
+    let ignored = retry_replies::replies::damaged_reply(given);
+    if ignored.refusal != 0 {
+        return ignored.refusal as u32;
     }
-    let next = answer.sender;
+    let next = ignored.sender;
     *sender = host_retry::sender_bytes(next);
     0
 }
@@ -69,12 +69,12 @@ pub extern "C" fn buzz_sender_tick(sender: &mut [u8; 38], fell: &mut u32) -> u32
         (r ≡ after .refusal) × (now (sender .exit) ≡ after .lent .sender) × (now (fell .exit) ≡ after .lent .fell)) ⌝ }
 {
     let given = host_retry::sender_in(*sender);
-    let answer = retry_replies::timer::tick(given);
-    if answer.refusal != 0 {
-        return answer.refusal as u32;
+    let ticked = retry_replies::timer::tick(given);
+    if ticked.refusal != 0 {
+        return ticked.refusal as u32;
     }
-    let next = answer.sender;
+    let next = ticked.sender;
     *sender = host_retry::sender_bytes(next);
-    *fell = mark_number(answer.fell);
+    *fell = mark_number(ticked.fell);
     0
 }

@@ -27,12 +27,14 @@ cast-result c = search needs
 returns : tie.Need-returns
 returns c =
     let h = sym (ap says (c .before .answer .given .1)) ∙ c .before .before .before .character-at .ensures in
-    rw (find-done _ (c .before .before .before .before .before .args .character .now) _ _ h) (refl, refl)
+    let a = c .before .before .before .before .before .args in
+    rw (find-done (a .capture .now) (a .character .now) (a .place) _ h) (refl, refl)
 
 returns-2 : tie.Need-returns-2
 returns-2 c =
     let h = sym (ap says (c .before .answer2 .given .1)) ∙ c .before .before .before .character-at .ensures in
-    rw (find-refused _ (c .before .before .before .before .before .args .character .now) _ _ h) (refl, refl)
+    let a = c .before .before .before .before .before .args in
+    rw (find-refused (a .capture .now) (a .character .now) (a .place) _ h) (refl, refl)
 
 pub buzz-capture-character-spec : {M : Type 1} → statement M
 buzz-capture-character-spec =

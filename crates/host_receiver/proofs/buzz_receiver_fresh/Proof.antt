@@ -13,14 +13,17 @@ cast-result : tie.Need-cast-result
 cast-result c = search needs
 
 returns : tie.Need-returns
-returns c = rw (begin-refused _ _ _ (c .before .before .before .fresh-receiver .ensures) (c .before .if1 .taken)) (refl, refl)
+returns c =
+    let a = c .before .before .before .before .args in
+    rw (begin-refused (a .size) (a .receiver .now) _ (c .before .before .before .fresh-receiver .ensures) (c .before .if1 .taken)) (refl, refl)
 
 receiver-bytes-requires : tie.Need-receiver-bytes-requires
 receiver-bytes-requires c κs = search needs
 
 returns-2 : tie.Need-returns-2
 returns-2 c =
-    rw (begin-done _ _ _ (c .before .before .before .before .fresh-receiver .ensures) (c .before .before .if1 .left))
+    let a = c .before .before .before .before .before .args in
+    rw (begin-done (a .size) (a .receiver .now) _ (c .before .before .before .before .fresh-receiver .ensures) (c .before .before .if1 .left))
     (sym (c .before .before .if1 .left), c .receiver-bytes .ensures)
 
 pub buzz-receiver-fresh-spec : {M : Type 1} → statement M

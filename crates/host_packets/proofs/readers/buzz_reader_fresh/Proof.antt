@@ -25,12 +25,14 @@ cast-result c = search needs
 returns : tie.Need-returns
 returns c =
     let h = sym (ap freshSays (c .before .before .answer .given .1)) ∙ c .before .before .before .before .fresh .ensures in
-    rw (begin-done _ (c .before .before .before .before .before .args .reader .now) _ h) (refl, c .reader-bytes .ensures)
+    let a = c .before .before .before .before .before .args in
+    rw (begin-done (a .size) (a .reader .now) _ h) (refl, c .reader-bytes .ensures)
 
 returns-2 : tie.Need-returns-2
 returns-2 c =
     let h = sym (ap freshSays (c .before .answer2 .given .1)) ∙ c .before .before .before .fresh .ensures in
-    rw (begin-refused _ (c .before .before .before .before .args .reader .now) _ h) (refl, refl)
+    let a = c .before .before .before .before .args in
+    rw (begin-refused (a .size) (a .reader .now) _ h) (refl, refl)
 
 pub buzz-reader-fresh-spec : {M : Type 1} → statement M
 buzz-reader-fresh-spec =

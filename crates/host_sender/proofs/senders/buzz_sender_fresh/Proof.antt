@@ -14,14 +14,16 @@ cast-result c = search needs
 
 returns : tie.Need-returns
 returns c =
-    rw (begin-refused _ _ _ _ (c .before .before .before .fresh-sender .ensures) (c .before .if1 .taken)) (refl, refl)
+    let a = c .before .before .before .before .args in
+    rw (begin-refused (a .columns) (a .size) (a .sender .now) _ (c .before .before .before .fresh-sender .ensures) (c .before .if1 .taken)) (refl, refl)
 
 sender-bytes-requires : tie.Need-sender-bytes-requires
 sender-bytes-requires c κs = search needs
 
 returns-2 : tie.Need-returns-2
 returns-2 c =
-    rw (begin-done _ _ _ _ (c .before .before .before .before .fresh-sender .ensures) (c .before .before .if1 .left))
+    let a = c .before .before .before .before .before .args in
+    rw (begin-done (a .columns) (a .size) (a .sender .now) _ (c .before .before .before .before .fresh-sender .ensures) (c .before .before .if1 .left))
     (sym (c .before .before .if1 .left), c .sender-bytes .ensures)
 
 pub buzz-sender-fresh-spec : {M : Type 1} → statement M
