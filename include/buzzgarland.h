@@ -94,6 +94,15 @@ uint32_t buzz_reader_fresh(uint32_t size, buzz_reader *reader);
 uint32_t buzz_reader_step(buzz_reader *reader, uint32_t violation, uint32_t byte, uint32_t control,
                           uint32_t *event, uint32_t *value, uint32_t *number);
 
+/* A whole capture, an event for each character in the front of events; *count becomes their number, *reader and *disparity the ones after it.
+ * An event is one number: the kind BUZZ_EVENT(e), its value BUZZ_VALUE(e) and its segment number BUZZ_NUMBER(e), as buzz_reader_step gives them.
+ * 8: the capture is not legal; 1: bytes that encode no state, no disparity; 6: fewer places than characters. */
+#define BUZZ_EVENT(e) ((uint32_t)(e) >> 16)
+#define BUZZ_VALUE(e) ((uint32_t)(e) & 255u)
+#define BUZZ_NUMBER(e) (((uint32_t)(e) >> 8) & 255u)
+uint32_t buzz_read_capture(const uint8_t *capture, size_t length, buzz_reader *reader, int32_t *disparity,
+                           uint32_t *events, size_t room, size_t *count);
+
 /* ---- the packet writer: characters in the front of a run, *count of them; *disparity becomes the closing one ---- */
 
 /* A data packet of one or more bytes: length + 6 characters. 1: channel over 255, no disparity; 4; 6. */
@@ -106,6 +115,9 @@ uint32_t buzz_write_priority(uint32_t size, uint32_t channel, uint32_t segment, 
 
 /* A retry LMP, ACK or NACK: 4 characters. 1: number over 15, no disparity; 6. */
 uint32_t buzz_write_lmp(uint32_t nack, uint32_t number, int32_t *disparity, uint16_t *characters, size_t room, size_t *count);
+
+/* The CRC of a run of bytes, its two check bytes as a packet carries them. Never refused. */
+uint32_t buzz_crc16(const uint8_t *bytes, size_t length, uint8_t check[2]);
 
 /* ---- the sending end of the retry. buffers is one run of 8 times S bytes, which only these calls write. ---- */
 
@@ -139,12 +151,13 @@ uint32_t buzz_sender_tick(buzz_sender *sender, uint32_t *fell);
 /* A fresh receiver with S = size. 2. */
 uint32_t buzz_receiver_fresh(uint32_t size, buzz_receiver *receiver);
 
-/* A valid segment arrives (number and channel 0 to 15, bad mark, 1 to S bytes); room is the host's mark. *delivered becomes 1 and
- * the bytes stand in the front of output; or 0. The reply to send is *nack with *reply. 1; 2; 4; 6: it would be delivered and
- * output is shorter; then there is no reply and nothing happened. */
+/* A valid segment arrives (number and channel 0 to 15, bad mark, 1 to S bytes); room is the host's mark. *delivered becomes 1, the bytes
+ * stand in the front of output, and their channel, bad mark and length are given; or it becomes 0, and so do those three. The reply to
+ * send is *nack with *reply. 1; 2; 4; 6: it would be delivered and output is shorter; then there is no reply and nothing happened. */
 uint32_t buzz_receiver_arrival(buzz_receiver *receiver, uint32_t number, uint32_t channel, uint32_t bad, const uint8_t *bytes,
                                size_t length, uint32_t room, uint8_t *output, size_t output_length,
-                               uint32_t *delivered, uint32_t *nack, uint32_t *reply);
+                               uint32_t *delivered, uint32_t *delivered_channel, uint32_t *delivered_bad, uint32_t *delivered_length,
+                               uint32_t *nack, uint32_t *reply);
 
 /* A damaged segment arrives: the reply to send. 1. */
 uint32_t buzz_receiver_damaged_arrival(buzz_receiver *receiver, uint32_t *nack, uint32_t *reply);
