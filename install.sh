@@ -3,7 +3,7 @@
 set -euo pipefail
 prefix=${1:?install.sh PREFIX}
 cd "$(dirname "$0")"
-[ -e target/staticlib/libhost.a ] || rt staticlib host
+[ -e target/staticlib/libhost.a ] || bash tools/archive.sh
 mkdir -p "$prefix/include" "$prefix/lib/pkgconfig"
 prefix=$(cd "$prefix" && pwd)
 cp include/buzzgarland.h "$prefix/include/"

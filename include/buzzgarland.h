@@ -139,12 +139,13 @@ uint32_t buzz_sender_tick(buzz_sender *sender, uint32_t *fell);
 /* A fresh receiver with S = size. 2. */
 uint32_t buzz_receiver_fresh(uint32_t size, buzz_receiver *receiver);
 
-/* A valid segment arrives (number and channel 0 to 15, bad mark, 1 to S bytes); room is the host's mark. *delivered becomes 1 and
- * the bytes stand in the front of output; or 0. The reply to send is *nack with *reply. 1; 2; 4; 6: it would be delivered and
- * output is shorter; then there is no reply and nothing happened. */
+/* A valid segment arrives (number and channel 0 to 15, bad mark, 1 to S bytes); room is the host's mark. *delivered becomes 1, the bytes
+ * stand in the front of output, and their channel, bad mark and length are given; or it becomes 0, and so do those three. The reply to
+ * send is *nack with *reply. 1; 2; 4; 6: it would be delivered and output is shorter; then there is no reply and nothing happened. */
 uint32_t buzz_receiver_arrival(buzz_receiver *receiver, uint32_t number, uint32_t channel, uint32_t bad, const uint8_t *bytes,
                                size_t length, uint32_t room, uint8_t *output, size_t output_length,
-                               uint32_t *delivered, uint32_t *nack, uint32_t *reply);
+                               uint32_t *delivered, uint32_t *delivered_channel, uint32_t *delivered_bad, uint32_t *delivered_length,
+                               uint32_t *nack, uint32_t *reply);
 
 /* A damaged segment arrives: the reply to send. 1. */
 uint32_t buzz_receiver_damaged_arrival(buzz_receiver *receiver, uint32_t *nack, uint32_t *reply);

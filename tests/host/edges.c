@@ -15,7 +15,7 @@ static struct lent {
   buzz_sender sender;
   buzz_receiver receiver;
   int32_t disparity;
-  uint32_t a, b, c, d, e;
+  uint32_t a, b, c, d, e, f;
   size_t n;
   uint16_t characters[8];
   uint8_t bytes[8], capture[8], buffers[64];
@@ -44,7 +44,9 @@ static uint32_t write_data(void *o, size_t n) { return buzz_write_data(200, m.by
 static uint32_t write_priority(void *o, size_t n) { return buzz_write_priority(8, 3, 12, m.bytes, 8, 0, &m.disparity, o, n, &m.n); }
 static uint32_t write_lmp(void *o, size_t n) { return buzz_write_lmp(1, 9, &m.disparity, o, n, &m.n); }
 static uint32_t send(void *o, size_t n) { return buzz_sender_send(&m.sender, m.buffers, 64, o, n, &m.a, &m.b, &m.c, &m.d, &m.e); }
-static uint32_t arrival(void *o, size_t n) { return buzz_receiver_arrival(&m.receiver, 0, 9, 1, m.bytes, 6, 1, o, n, &m.a, &m.b, &m.c); }
+#define ARRIVE(number, channel, length, room, o, n) \
+  buzz_receiver_arrival(&m.receiver, number, channel, 7, m.bytes, length, room, o, n, &m.a, &m.b, &m.c, &m.d, &m.e, &m.f)
+static uint32_t arrival(void *o, size_t n) { return ARRIVE(0, 9, 6, 1, o, n); }
 
 static int untouched(const uint8_t *bytes, size_t n) {
   for (size_t i = 0; i < n; i++)
@@ -170,12 +172,16 @@ static void refused_ends(void) {
     CHECK(allowed || memcmp(&before, &m, sizeof m) == 0);
   }
   begin();
-  REFUSED(BUZZ_OUT_OF_RANGE, buzz_receiver_arrival(&m.receiver, 272, 0, 0, m.bytes, 0, 1, output, 0, &m.a, &m.b, &m.c));
-  REFUSED(BUZZ_OUT_OF_RANGE, buzz_receiver_arrival(&m.receiver, 0, 272, 0, m.bytes, 9, 1, output, 0, &m.a, &m.b, &m.c));
+  CHECK(ARRIVE(0, 9, 6, 1, output, 6) == BUZZ_OK && m.a == 1 && m.b == 9 && m.c == 1 && m.d == 6 && m.e == 0 && m.f == 0);
+  CHECK(ARRIVE(0, 9, 6, 1, output, 6) == BUZZ_OK && m.a == 0 && m.b == 0 && m.c == 0 && m.d == 0 && m.e == 0 && m.f == 0); /* repeated */
+  CHECK(ARRIVE(5, 9, 6, 1, output, 6) == BUZZ_OK && m.a == 0 && m.b == 0 && m.c == 0 && m.d == 0 && m.e == 1 && m.f == 1); /* out of order */
+  begin();
+  REFUSED(BUZZ_OUT_OF_RANGE, ARRIVE(272, 0, 0, 1, output, 0));
+  REFUSED(BUZZ_OUT_OF_RANGE, ARRIVE(0, 272, 9, 1, output, 0));
   /* with the number that is expected and with any other */
   for (uint32_t number = 0; number < 16; number++) {
-    REFUSED(BUZZ_SEGMENT_SIZE, buzz_receiver_arrival(&m.receiver, number, 0, 0, m.bytes, 9, 0, output, 0, &m.a, &m.b, &m.c));
-    REFUSED(BUZZ_NO_BYTES, buzz_receiver_arrival(&m.receiver, number, 0, 0, m.bytes, 0, 0, output, 0, &m.a, &m.b, &m.c));
+    REFUSED(BUZZ_SEGMENT_SIZE, ARRIVE(number, 0, 9, 0, output, 0));
+    REFUSED(BUZZ_NO_BYTES, ARRIVE(number, 0, 0, 0, output, 0));
   }
 }
 

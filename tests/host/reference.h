@@ -11,7 +11,7 @@
 #ifndef WRONG
 #define WRONG 0
 #endif
-enum { WRONGS = 28 }; /* the errors are numbered 1 to this */
+enum { WRONGS = 29 }; /* the errors are numbered 1 to this */
 
 /* ---- characters and captures ---- */
 
@@ -73,7 +73,8 @@ uint32_t ref_sender_tick(ref_sender *sender, uint32_t *fell);
 uint32_t ref_receiver_fresh(uint32_t size, ref_receiver *receiver);
 uint32_t ref_receiver_arrival(ref_receiver *receiver, uint32_t number, uint32_t channel, uint32_t bad, const uint8_t *bytes,
                               size_t length, uint32_t room, uint8_t *output, size_t output_length,
-                              uint32_t *delivered, uint32_t *nack, uint32_t *reply);
+                              uint32_t *delivered, uint32_t *delivered_channel, uint32_t *delivered_bad, uint32_t *delivered_length,
+                              uint32_t *nack, uint32_t *reply);
 uint32_t ref_receiver_damaged_arrival(ref_receiver *receiver, uint32_t *nack, uint32_t *reply);
 
 #endif

@@ -164,15 +164,16 @@ static void answer(uint32_t nack, uint32_t number, int faults) {
 /* A valid segment at the far end, with or without room, sometimes with an output that is too short. */
 static void arrive(const struct item *it, const struct heard *h, int faults, uint32_t room) {
   static uint8_t output[MOST_S];
-  uint32_t done, nack, reply;
+  uint32_t done, channel, bad, told, nack, reply;
   size_t length = faults && one_in(20) ? below((uint32_t)h->length) : h->length;
-  uint32_t refusal = buzz_receiver_arrival(&receiver, h->number, h->channel, h->bad, h->bytes, h->length, room, output, length, &done, &nack, &reply);
+  uint32_t refusal = buzz_receiver_arrival(&receiver, h->number, h->channel, h->bad, h->bytes, h->length, room, output, length, &done, &channel, &bad, &told,
+                                           &nack, &reply);
   if (refusal == BUZZ_SHORT_OUTPUT && length < h->length && room && it->index == delivered) return; /* nothing happened, and no reply */
   must(refusal, "an arrival is refused");
   if (done) {
     const struct segment *s = &accepted_ones[delivered % KEPT];
     if (delivered == accepted || it->index != delivered || length < h->length) fail("delivered out of order, or twice, or too much");
-    if (s->length != h->length || s->channel != h->channel || s->bad != h->bad || memcmp(s->bytes, output, s->length) != 0) fail("another content arrives");
+    if (s->length != told || s->channel != channel || s->bad != bad || memcmp(s->bytes, output, s->length) != 0) fail("another content arrives");
     delivered++, sum_delivered++;
   }
   answer(nack, reply, faults);

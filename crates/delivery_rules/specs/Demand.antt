@@ -5,7 +5,8 @@ use mathlib.Core.List.{List, [], _∷_, _++_, map}
 use mathlib.Core.Path.{_≡_}
 use lib.Dec.{eqb}
 use lib.ListN.{length, getD, take, replicate}
-use Rattle.retry_rules.specs.Numbers.{timeAllowed, sizeAllowed}
+use Rattle.retry_rules.specs.Numbers.{timeAllowed}
+use Rattle.segment_size.specs.Sizes.{sizeAllowed}
 use Rattle.retry_rules.specs.Lent.{Content}
 use Rattle.delivery_rules.specs.Ends.{Item, segment, damaged, Ends}
 use Rattle.delivery_rules.specs.Outside.{isUp, outstanding, stored, ticksLeft, seenTick}

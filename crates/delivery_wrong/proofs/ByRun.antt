@@ -9,7 +9,7 @@ use lib.ListN.{length, getD, take, replicate}
 use borrow.Author.Tests.{eqb-true, eqb-false, leb-true, ltb-true, eq-eqb, not-true}
 use Rattle.laws.specs.Lists.{countFrom}
 use Rattle.laws.proofs.Cases.{both-true, first-true, second-true, false-is-not-true}
-use Rattle.retry_rules.specs.Numbers.{sizeAllowed}
+use Rattle.segment_size.specs.Sizes.{sizeAllowed}
 use Rattle.retry_rules.specs.Lent.{Content}
 use Rattle.delivery_rules.specs.Ends.{Item, segment, damaged, Ends}
 use Rattle.delivery_rules.specs.Outside.{isUp, stored, seenTick}

@@ -8,7 +8,7 @@ use native.Mathlib.Omega.{arith}
 use lib.Dec.{eqb}
 use lib.ListN.{length, replicate, set}
 use Rattle.laws.proofs.Cases.{by-cases}
-use Rattle.retry_rules.specs.Numbers.{sizeAllowed}
+use Rattle.segment_size.specs.Sizes.{sizeAllowed}
 use Rattle.retry_rules.specs.declared.Receiver.{Receiver}
 use Rattle.retry_rules.specs.Lent.{Content}
 use Rattle.delivery_rules.specs.Ends.{Item, segment, damaged, Reply, Ends}

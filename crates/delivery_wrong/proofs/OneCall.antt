@@ -3,7 +3,8 @@
 use mathlib.Core.Path.{refl}
 use mathlib.Core.Bool.{true}
 use mathlib.Core.List.{List, [], _∷_, map}
-use Rattle.retry_rules.specs.Numbers.{sizeAllowed, amongLast, countRule}
+use Rattle.retry_rules.specs.Numbers.{amongLast, countRule}
+use Rattle.segment_size.specs.Sizes.{sizeAllowed}
 use Rattle.retry_rules.specs.States.{linkRule, timerRule, windowRule, countersRule, slotRule, slotsRule, senderRule, receiverRule}
 use Rattle.retry_rules.specs.Lent.{laid, heldBytes}
 use Rattle.retry_rules.specs.Fresh.{freshChecks, freshSenderOf, sizeChecks, freshReceiverOf}

@@ -3,3 +3,4 @@ pub mod Characters
 pub mod Captures
 pub mod ReaderBytes
 pub mod Stepping
+pub mod Signed

@@ -16,6 +16,15 @@ markNumber b = cond b 1 0
 unfoldable pub stands : {A : Type 0} → ℕ → A → A → A
 stands n old new = cond (eqb n 0) new old
 
+-- what a call comes to: the refusal's number, 0 for none, and what all that was lent to it holds afterwards
+pub record Called (A : Type 0) : Type 0 where
+  pub refusal : ℕ
+  pub lent : A
+
+-- on a refusal all that was lent is what stood there
+unfoldable pub called : {A : Type 0} → ℕ → A → A → Called A
+called n old new = record { refusal = n; lent = stands n old new }
+
 -- what a lent number holds after an answer that may bring one
 abbrev pub orOld : {A : Type 0} → Option A → A → A
 orOld none old = old

@@ -11,3 +11,4 @@ pub mod Groups
 pub mod Iff
 pub mod Zeros
 pub mod Stores
+pub mod Keys

@@ -1,12 +1,9 @@
 -- The code's way through a step comes to what the rules say, for every state and every character result.
 -- Assumes nothing.
 use mathlib.Core.Path.{_≡_, refl, sym, ap, _∙_}
-use mathlib.Core.Bool.{Bool, true, false, cond, not, _&&_, _||_}
-use mathlib.Core.List.{List, [], _∷_}
-use mathlib.Core.Option.{Option, none, some}
-use Prim.Native.Nat.{ℕ, _+_, _-_, _/_, _%_, _<_}
-use native.Mathlib.Omega.{arith}
-use borrow.Author.Tests.{eq-eqb, ne-eqb, eqb-true, ltb-true}
+use mathlib.Core.Bool.{Bool, true, false, not}
+use Prim.Native.Nat.{ℕ, _-_}
+use borrow.Author.Tests.{eqb-true, ltb-true}
 use lib.Bits.{bitXor}
 use lib.Dec.{eqb, ltb, leb}
 use lib.IntN.{ℤ}
@@ -14,7 +11,7 @@ use Rattle.symbol.specs.Symbols.{isSymbol}
 use Rattle.symbol.specs.declared.Symbol.{Symbol}
 use Rattle.character_rules.specs.declared.Decoded.{Decoded}
 use Rattle.character_rules.specs.declared.Decoded.the-variants.{Clean, WrongDisparity, Invalid, Refused as NotRead}
-use Rattle.character_rules.specs.Answers.{Reading, readingSays, clean, wrongDisparity, invalid}
+use Rattle.character_rules.specs.Answers.{readingSays, clean, wrongDisparity, invalid}
 use Rattle.packet_rules.specs.declared.Opener.{Opener}
 use Rattle.packet_rules.specs.declared.Opener.the-variants.{Sdp, Spp, Slp}
 use Rattle.packet_rules.specs.declared.Kind.{Kind}
@@ -27,21 +24,19 @@ use Rattle.packet_rules.specs.declared.Due.{Due}
 use Rattle.packet_rules.specs.declared.Due.the-variants.{Channel, Opening, Closing, FirstCrc, SecondCrc, LmpType, LmpNumber, LmpCheck}
 use Rattle.packet_rules.specs.declared.Phase.{Phase}
 use Rattle.packet_rules.specs.declared.Phase.the-variants.{Free, Next, Idles, Dropping}
-use Rattle.packet_rules.specs.declared.Event.{Event}
-use Rattle.packet_rules.specs.declared.Event.the-variants.{Nothing, StartData, StartPriority, Byte, End, Lmp, Violation, Refused}
 use Rattle.packet_rules.specs.declared.Reader.{Reader}
 use Rattle.packet_rules.specs.declared.Step.{Step}
-use Rattle.packet_rules.specs.Answers.{Said, Answer, eventSays, stepSays}
-use Rattle.packet_rules.specs.State.{noPriority, outside, hasByte, openingByte, registerIn, wellFormed}
+use Rattle.packet_rules.specs.Answers.{Said, eventSays, stepSays}
+use Rattle.packet_rules.specs.State.{outside, hasByte, openingByte, registerIn, wellFormed}
 use Rattle.packet_rules.specs.Symbols.{kindOf}
 use Rattle.packet_rules.specs.Violations.{rightCrc, violationOf}
-use Rattle.packet_rules.specs.Step.{lmpSaid, broken, dropped, kindIn, readOf, stepOf}
+use Rattle.packet_rules.specs.Step.{lmpSaid, broken, dropped, readOf, stepOf}
 use Rattle.packet_rules.specs.Line.{isReply}
 use Rattle.packet_rules.proofs.Steps.{st}
 use Rattle.packet_rules.proofs.Legal.{reply-said, other-said}
-use Rattle.packet_reader.specs.declared.Class.{Class}
-use Rattle.packet_reader.specs.declared.Class.the-variants.{Known, Unknown}
-use Rattle.packet_reader.specs.Tree.{classOf, refusedTo, byteInData, byteIn, endIn, mayStart, freeOf, lmpOf, dueOf, seqOf, idleOf, dropOf, cleanOf, spoiledOf, knownOf, advanceOf}
+use Rattle.packet_turns.specs.Tree.{mayStart, freeOf}
+use Rattle.packet_sequences.specs.Sequences.{lmpOf, dueOf, seqOf, idleOf, dropOf}
+use Rattle.packet_reader.specs.Classes.{classOf, cleanOf, spoiledOf, refusedTo, advanceOf}
 
 -- ---- what a right LMP gives
 

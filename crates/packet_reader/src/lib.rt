@@ -1,9 +1,4 @@
 // The packet reader: one character result in, one event out. The state goes in by value and comes back.
-mod answers;
-mod begun;
-mod standing;
-mod unbegun;
-
 use character_rules::Decoded;
 use packet_rules::DataPacket;
 use packet_rules::Event;
@@ -14,13 +9,15 @@ use packet_rules::Phase;
 use packet_rules::PriorityPacket;
 use packet_rules::Reader;
 use packet_rules::Step;
+use packet_turns::answers;
+use packet_turns::unbegun;
 use symbol::Symbol;
 ghost use mathlib.Core.Path.{_≡_};
 ghost use Rattle.character_rules.specs.Answers.{readingSays};
 ghost use Rattle.packet_rules.specs.Answers.{stepSays, freshSays};
 ghost use Rattle.packet_rules.specs.State.{wellFormed, freshReader};
 ghost use Rattle.packet_rules.specs.Step.{stepOf};
-ghost use Rattle.packet_reader.specs.Tree.{classOf, cleanOf, spoiledOf, advanceOf};
+ghost use Rattle.packet_reader.specs.Classes.{classOf, cleanOf, spoiledOf, advanceOf, refusedTo};
 
 // A symbol's kind, if it is a symbol.
 pub enum Class {
@@ -54,14 +51,15 @@ fn classify(s: Symbol) -> Class
     }
 }
 
+// A clean symbol of kind k.
 fn clean(r: Reader, phase: Phase, k: Kind) -> Step
     ensures { λ s. ⌜ s ≡ cleanOf phase k r ⌝ }
 {
     match phase {
         Phase::Free => unbegun::free(r, k),
-        Phase::Next(due) => begun::in_sequence(r, due, k),
-        Phase::Idles(n) => begun::in_idles(r, n, k),
-        Phase::Dropping => begun::dropping(r, k),
+        Phase::Next(due) => packet_sequences::in_sequence(r, due, k),
+        Phase::Idles(n) => packet_sequences::in_idles(r, n, k),
+        Phase::Dropping => packet_sequences::dropping(r, k),
     }
 }
 
@@ -77,8 +75,18 @@ fn spoiled(n: u8, phase: Phase, r: Reader) -> Step
     }
 }
 
-// The step in a state that keeps the rule.
-fn advance(r: Reader, result: Decoded) -> Step
+// A refusal hands back the state as it was given.
+fn refused(n: u8, r: Reader) -> Step
+    ensures { λ s. ⌜ s ≡ refusedTo n r ⌝ }
+{
+    Step {
+        event: Event::Refused(n),
+        reader: r,
+    }
+}
+
+// The step in a state that keeps the rule; a run of characters tests the rule once and goes on by this.
+pub fn advance(r: Reader, result: Decoded) -> Step
     ensures { λ s. ⌜ s ≡ advanceOf r result ⌝ }
 {
     let phase = r.phase;
@@ -87,18 +95,18 @@ fn advance(r: Reader, result: Decoded) -> Step
             let c = classify(s);
             match c {
                 Class::Known(k) => clean(r, phase, k),
-                Class::Unknown => answers::refused(refusal::OUT_OF_RANGE, r),
+                Class::Unknown => refused(refusal::OUT_OF_RANGE, r),
             }
         }
         Decoded::WrongDisparity(s, _) => {
             let c = classify(s);
             match c {
                 Class::Known(_) => spoiled(2, phase, r),
-                Class::Unknown => answers::refused(refusal::OUT_OF_RANGE, r),
+                Class::Unknown => refused(refusal::OUT_OF_RANGE, r),
             }
         }
         Decoded::Invalid(_) => spoiled(1, phase, r),
-        Decoded::Refused(_) => answers::refused(refusal::OUT_OF_RANGE, r),
+        Decoded::Refused(_) => refused(refusal::OUT_OF_RANGE, r),
     }
 }
 
@@ -106,10 +114,10 @@ fn advance(r: Reader, result: Decoded) -> Step
 pub fn step(r: Reader, result: Decoded) -> Step
     ensures { λ s. ⌜ stepSays s ≡ stepOf r (readingSays result) ⌝ }
 {
-    if standing::is_well_formed(r) {
+    if packet_state::is_well_formed(r) {
         advance(r, result)
     } else {
-        answers::refused(refusal::OUT_OF_RANGE, r)
+        refused(refusal::OUT_OF_RANGE, r)
     }
 }
 
@@ -117,7 +125,7 @@ pub fn step(r: Reader, result: Decoded) -> Step
 pub fn fresh(s: u32) -> FreshReader
     ensures { λ r. ⌜ freshSays r ≡ freshReader s ⌝ }
 {
-    if standing::is_segment_size(s) {
+    if segment_size::size_is_allowed(s) {
         let reader = Reader {
             size: (s % 65536) as u16,
             packet: DataPacket::NoData,

@@ -25,7 +25,8 @@ use Rattle.packet_rules.specs.declared.Phase.{Phase}
 use Rattle.packet_rules.specs.declared.Phase.the-variants.{Free, Next, Idles, Dropping}
 use Rattle.packet_rules.specs.declared.Reader.{Reader}
 use Rattle.packet_rules.specs.Answers.{Said, Answer, nothing, violated, ended}
-use Rattle.packet_rules.specs.State.{noPriority, outside, hasByte, isSegmentSize, dataRule, priorityRule, dueRule, phaseRule, wellFormed, fresh}
+use Rattle.packet_rules.specs.State.{noPriority, outside, hasByte, dataRule, priorityRule, dueRule, phaseRule, wellFormed, fresh}
+use Rattle.segment_size.specs.Sizes.{sizeAllowed}
 use Rattle.packet_rules.specs.Violations.{mayNotStand, isFull, conditions, violationOf}
 use Rattle.packet_rules.specs.Step.{answer, dueAfter, userByte, freeMove, closesOwn, dueMove, byteOf, idlesAfter, move, broken, awakens, dropped, judged, kindIn, readOf, stepChecks, refusedStep, stepOf}
 use Rattle.packet_rules.proofs.Choice.{either, by-outcome}
@@ -37,7 +38,7 @@ st s d p w = record { size = s; packet = d; priority = p; phase = w }
 abbrev pub Keeps : Answer → Type 0
 Keeps a = wellFormed (a .reader) ≡ true
 
-module _ (s : ℕ) (ok : isSegmentSize s ≡ true) where
+module _ (s : ℕ) (ok : sizeAllowed s ≡ true) where
   keep : (d : DataPacket) (p : PriorityPacket) (w : Phase) → dataRule d ≡ true → priorityRule s p ≡ true → phaseRule d p w ≡ true
       → wellFormed (st s d p w) ≡ true
   unfolding wellFormed
@@ -146,7 +147,7 @@ module _ (s : ℕ) (ok : isSegmentSize s ≡ true) where
 pub kept : (r : Reader) (g : Reading) → wellFormed r ≡ true → Keeps (stepOf r g)
 unfolding stepOf wellFormed
 kept r g h =
-    let s = isSegmentSize (r .size) in
+    let s = sizeAllowed (r .size) in
     let d = dataRule (r .packet) in
     let p = priorityRule (r .size) (r .priority) in
     let w = phaseRule (r .packet) (r .priority) (r .phase) in
@@ -157,5 +158,5 @@ kept r g h =
     (reads (r .size) (first-true s (d && (p && w)) h) (r .packet) (r .priority) (first-true d (p && w) dpw) (first-true p w pw) (r .phase) g k
     (second-true p w pw))
 
-pub fresh-kept : (s : ℕ) → isSegmentSize s ≡ true → wellFormed (fresh s) ≡ true
+pub fresh-kept : (s : ℕ) → sizeAllowed s ≡ true → wellFormed (fresh s) ≡ true
 fresh-kept s ok = keep s ok NoData NoPriority Free refl refl refl

@@ -27,7 +27,8 @@ use Rattle.packet_rules.specs.declared.Phase.{Phase}
 use Rattle.packet_rules.specs.declared.Phase.the-variants.{Free, Next, Idles, Dropping}
 use Rattle.packet_rules.specs.declared.Reader.{Reader}
 use Rattle.packet_rules.specs.Answers.{Said, Answer, nothing, started, gaveByte, ended, replied}
-use Rattle.packet_rules.specs.State.{noPriority, outside, hasByte, openingByte, registerIn, fedPriority, fedData, isSegmentSize, wellFormed, fresh}
+use Rattle.packet_rules.specs.State.{noPriority, outside, hasByte, openingByte, registerIn, fedPriority, fedData, wellFormed, fresh}
+use Rattle.segment_size.specs.Sizes.{sizeAllowed}
 use Rattle.packet_rules.specs.Step.{closesOwn, lmpSaid, stepOf}
 use Rattle.packet_rules.specs.Line.{COM, IDL, SPP, SDP, SLP, endSymbol, isReply, Fill, idl, comIdles, reply, other, Inside, end, byte, among, closing, closingSaid, PriorityLine, priority, Within, fill, nested, DataLine, packet, Outside, zeros, within, data-packet, LegalLine, empty, then, saidOf, afterOf, ReadClean}
 use Rattle.packet_rules.proofs.Kept.{fresh-kept}
@@ -198,6 +199,6 @@ module _ (s : ℕ) where
   lines ok (then {fs = fs} {gs = gs} o l) = runs-append (outsides ok fs gs o) (lines ok l)
 
 -- THE THEOREM: a fresh reader, given any legal line read clean, says exactly what the description says, and is fresh after it
-pub legal-line : (s : ℕ) → isSegmentSize s ≡ true → {ss : List Symbol} {es : List Said} {gs : List Reading} → LegalLine s ss es → ReadClean ss gs
+pub legal-line : (s : ℕ) → sizeAllowed s ≡ true → {ss : List Symbol} {es : List Said} {gs : List Reading} → LegalLine s ss es → ReadClean ss gs
     → (saidOf (fresh s) gs ≡ es) × (afterOf (fresh s) gs ≡ fresh s)
 legal-line s ok l c = runs-said (lines s (fresh-kept s ok) l) c

@@ -21,7 +21,7 @@ use Rattle.character_rules.specs.Demand.{canWrite}
 use Rattle.crc.specs.Crc16.{crcStart, crcFrom, checkBytesOf, crcOf}
 use Rattle.crc.proofs.Laws.{check-bytes}
 use Rattle.packet_rules.specs.Answers.{Said, gaveByte}
-use Rattle.packet_rules.specs.State.{isSegmentSize}
+use Rattle.segment_size.specs.Sizes.{sizeAllowed}
 use Rattle.packet_rules.specs.Line.{SPP, SDP, SLP, endSymbol, Fill, reply, Inside, end, byte, closing, PriorityLine, priority, Within, fill, nested, DataLine, packet, Outside, within, data-packet}
 use Rattle.packet_rules.specs.Packets.{Packet, inData, inPriority, retry, packetSymbols, retryByte, symbolsOf, packetChecks, saidFor}
 use Rattle.packet_rules.specs.RoundTrip.{Allowed}
@@ -103,7 +103,7 @@ length-packet x o bs bad =
 
 -- ---- no refusal applies
 
-pub accepted : (s : ℕ) (p : Packet) (d : ℤ) (room : ℕ) → isSegmentSize s ≡ true → Allowed s p → T (isDisparity d) → length (symbolsOf p) ≤ room
+pub accepted : (s : ℕ) (p : Packet) (d : ℤ) (room : ℕ) → sizeAllowed s ≡ true → Allowed s p → T (isDisparity d) → length (symbolsOf p) ≤ room
     → refusalOf (packetChecks s p d room) ≡ 0
 unfolding symbolsOf
 accepted s (inData c bytes bad) d room ok h t l =

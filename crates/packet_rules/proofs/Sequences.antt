@@ -13,7 +13,7 @@ use Rattle.character_rules.specs.Answers.{Reading}
 use Rattle.character_rules.specs.Reading.{reading}
 use Rattle.character_rules.specs.Results.{afterOne}
 use Rattle.packet_rules.specs.Answers.{Said}
-use Rattle.packet_rules.specs.State.{isSegmentSize}
+use Rattle.segment_size.specs.Sizes.{sizeAllowed}
 use Rattle.packet_rules.specs.Packets.{Packet, symbolsOf, PacketWriting, saidFor}
 use Rattle.packet_rules.specs.RoundTrip.{PacketReader, PacketWriter, readings, disparityAfter, AllClean, saysOf, leftOf, ReadBack, PacketRoundTrip, Sequence, last, first, saidForAll}
 
@@ -63,7 +63,7 @@ joined reader s p ps d e f cs ds a b =
     }
 
 -- THE THEOREM
-pub sequences : (reader : PacketReader) (writer : PacketWriter) → PacketRoundTrip reader writer → (s : ℕ) → isSegmentSize s ≡ true
+pub sequences : (reader : PacketReader) (writer : PacketWriter) → PacketRoundTrip reader writer → (s : ℕ) → sizeAllowed s ≡ true
     → {ps : List Packet} {d : ℤ} {cs : List ℕ} {e : ℤ} → T (isDisparity d) → Sequence writer s ps d cs e → AllBack reader s ps d e cs
 sequences reader writer t s ok td (last d) = record { clean = tt; said = refl; fresh = refl; closes = refl }
 sequences reader writer t s ok td (first p out d e {ps} {cs} {f} h l w k) =

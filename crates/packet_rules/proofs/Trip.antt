@@ -13,7 +13,8 @@ use Rattle.character_rules.specs.Disparity.{isDisparity}
 use Rattle.character_rules.specs.Answers.{Reading}
 use Rattle.packet_rules.specs.declared.Reader.{Reader}
 use Rattle.packet_rules.specs.Answers.{Said, Answer}
-use Rattle.packet_rules.specs.State.{isSegmentSize, fresh}
+use Rattle.packet_rules.specs.State.{fresh}
+use Rattle.segment_size.specs.Sizes.{sizeAllowed}
 use Rattle.packet_rules.specs.Step.{stepOf}
 use Rattle.packet_rules.specs.Line.{saidOf, afterOf}
 use Rattle.packet_rules.specs.Packets.{Packet, inData, retry, symbolsOf, charactersOf, closingOf, packetChecks, PacketWriting, wrote, notWrote, packetWriting, packetOutput, saidFor}
@@ -42,7 +43,7 @@ unfolding afterOf
 left-is r [] = refl
 left-is r (g ∷ gs) = left-is (stepOf r g .reader) gs
 
-back : (s : ℕ) (p : Packet) (d : ℤ) → isSegmentSize s ≡ true → Allowed s p → T (isDisparity d)
+back : (s : ℕ) (p : Packet) (d : ℤ) → sizeAllowed s ≡ true → Allowed s p → T (isDisparity d)
     → ReadBack theReader s p d (closingOf (symbolsOf p) d) (charactersOf (symbolsOf p) d)
 back s p d ok h t =
     let k = comes (symbolsOf p) d (can s p h) t in

@@ -9,6 +9,7 @@ use native.Mathlib.Omega.{arith}
 use lib.Dec.{T}
 use lib.IntN.{ℤ, pos}
 use lib.ListN.{length, take, replicate}
+use Rattle.segment_size.specs.Sizes.{sizeAllowed}
 use Rattle.laws.proofs.Cases.{false-is-not-true}
 use Rattle.character_rules.specs.Answers.{Reading}
 use Rattle.packet_rules.specs.Answers.{Said}
@@ -57,7 +58,7 @@ none-good r q (g ∷ gs) = simp (never-good (r .says q g .end)) (none-good r (r 
 
 -- whatever the writer
 pub not-every-packet-bad : (r : PacketReader) (w : PacketWriter) → PacketRoundTrip (everyPacketBad r) w → ⊥
-unfolding saidFor
+unfolding saidFor sizeAllowed
 not-every-packet-bad r w t =
     let p = inData 0 (0 ∷ []) false in
     let out : List ℕ = replicate 7 0 in
@@ -72,7 +73,7 @@ storesNothing w = record { answers = w .answers; leaves = λ s p d out. out }
 
 -- whatever the reader: two packets would read alike
 pub not-stores-nothing : (r : PacketReader) (w : PacketWriter) → PacketRoundTrip r (storesNothing w) → ⊥
-unfolding saidFor
+unfolding saidFor sizeAllowed
 not-stores-nothing r w t =
     let p = inData 0 (0 ∷ []) false in
     let q = inData 0 (0 ∷ []) true in

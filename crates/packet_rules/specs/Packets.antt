@@ -14,7 +14,7 @@ use Rattle.character_rules.specs.Disparity.{isDisparity}
 use Rattle.character_rules.specs.Blocks.{character, closing as closingAfter}
 use Rattle.packet_rules.specs.declared.Written.{Written}
 use Rattle.packet_rules.specs.declared.Written.the-variants.{Done, Refused}
-use Rattle.packet_rules.specs.State.{isSegmentSize}
+use Rattle.segment_size.specs.Sizes.{sizeAllowed}
 use Rattle.packet_rules.specs.Answers.{Said, nothing, started, gaveByte, replied}
 use Rattle.packet_rules.specs.Line.{SPP, SDP, SLP, closing, closingSaid}
 
@@ -53,7 +53,7 @@ abbrev pub packetChecks : ℕ → Packet → ℤ → ℕ → List Check
 packetChecks s (inData c bytes bad) d room =
     check 1 (not (isDisparity d)) ∷ check 1 (ltb 255 c) ∷ check 4 (eqb (length bytes) 0) ∷ check 6 (ltb room (length bytes + 6)) ∷ []
 packetChecks s (inPriority c g bytes bad) d room =
-    check 1 (not (isDisparity d)) ∷ check 1 (ltb 15 c) ∷ check 1 (ltb 15 g) ∷ check 2 (not (isSegmentSize s)) ∷ check 2 (ltb s (length bytes))
+    check 1 (not (isDisparity d)) ∷ check 1 (ltb 15 c) ∷ check 1 (ltb 15 g) ∷ check 2 (not (sizeAllowed s)) ∷ check 2 (ltb s (length bytes))
     ∷ check 4 (eqb (length bytes) 0) ∷ check 6 (ltb room (length bytes + 6)) ∷ []
 packetChecks s (retry nack n) d room = check 1 (not (isDisparity d)) ∷ check 1 (ltb 15 n) ∷ check 6 (ltb room 4) ∷ []
 

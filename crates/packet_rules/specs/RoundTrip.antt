@@ -11,7 +11,7 @@ use Rattle.character_rules.specs.Disparity.{isDisparity}
 use Rattle.character_rules.specs.Answers.{Reading}
 use Rattle.character_rules.specs.Reading.{reading}
 use Rattle.character_rules.specs.Results.{afterOne}
-use Rattle.packet_rules.specs.State.{isSegmentSize}
+use Rattle.segment_size.specs.Sizes.{sizeAllowed}
 use Rattle.packet_rules.specs.Answers.{Said}
 use Rattle.packet_rules.specs.Packets.{Packet, inData, inPriority, retry, symbolsOf, saidFor, PacketWriting, wrote}
 
@@ -66,7 +66,7 @@ pub record ReadBack (reader : PacketReader) (s : ℕ) (p : Packet) (d e : ℤ) (
 
 -- THE ROUND TRIP: into every output that is long enough the writer writes all of the packet's characters, and they read back
 pub record PacketRoundTrip (reader : PacketReader) (writer : PacketWriter) : Type 0 where
-  pub written : (s : ℕ) (p : Packet) (d : ℤ) (out : List ℕ) → isSegmentSize s ≡ true → Allowed s p → T (isDisparity d) → length (symbolsOf p) ≤ length out
+  pub written : (s : ℕ) (p : Packet) (d : ℤ) (out : List ℕ) → sizeAllowed s ≡ true → Allowed s p → T (isDisparity d) → length (symbolsOf p) ≤ length out
       → (e : ℤ) × (T (isDisparity e)) × (writer .answers s p d out ≡ wrote (length (symbolsOf p)) e)
       × ReadBack reader s p d e (take (length (symbolsOf p)) (writer .leaves s p d out))
 

@@ -3,7 +3,7 @@ use Prim.Native.Nat.{ℕ, _+_}
 use mathlib.Core.Bool.{Bool, true, false, not, _&&_, _||_}
 use mathlib.Core.List.{List, [], _∷_}
 use lib.Dec.{eqb, ltb, leb}
-use Rattle.laws.specs.Lists.{oneOf}
+use Rattle.segment_size.specs.Sizes.{sizeAllowed}
 use Rattle.refusal.specs.Order.{check, outcome}
 use Rattle.crc.specs.Crc16.{crcStart, crcByte}
 use Rattle.packet_rules.specs.declared.DataPacket.{DataPacket}
@@ -58,10 +58,6 @@ fedData NoData NoPriority b = NoData
 
 -- ---- the written rule
 
--- S is 8, 16, 32 up to 1,024
-abbrev pub isSegmentSize : ℕ → Bool
-isSegmentSize s = oneOf s (8 ∷ 16 ∷ 32 ∷ 64 ∷ 128 ∷ 256 ∷ 512 ∷ 1024 ∷ [])
-
 -- no byte yet: the register is at its start
 abbrev pub dataRule : DataPacket → Bool
 dataRule NoData = true
@@ -92,7 +88,7 @@ phaseRule d p Dropping = outside d p
 
 unfoldable pub wellFormed : Reader → Bool
 wellFormed r =
-    isSegmentSize (r .size)
+    sizeAllowed (r .size)
     && (dataRule (r .packet) && (priorityRule (r .size) (r .priority) && phaseRule (r .packet) (r .priority) (r .phase)))
 
 -- ---- a fresh reader: outside, and not dropping; refusal 2 if S is not allowed
@@ -101,4 +97,4 @@ abbrev pub fresh : ℕ → Reader
 fresh s = record { size = s; packet = NoData; priority = NoPriority; phase = Free }
 
 unfoldable pub freshReader : ℕ → Made
-freshReader s = outcome (check 2 (not (isSegmentSize s)) ∷ []) notMade (made (fresh s))
+freshReader s = outcome (check 2 (not (sizeAllowed s)) ∷ []) notMade (made (fresh s))

@@ -12,7 +12,6 @@ ghost use Rattle.symbol.specs.Symbols.{dataSymbol};
 ghost use Rattle.character_rules.specs.Disparity.{isDisparity};
 ghost use Rattle.character_rules.specs.Demand.{canWrite};
 ghost use Rattle.packet_rules.specs.Packets.{inData, inPriority, retry, retryByte, packetSymbols, writtenSays, packetWriting, packetOutput};
-ghost use Rattle.packet_rules.specs.State.{isSegmentSize};
 ghost use Rattle.packet_writer.specs.Writing.{symbolOf, endNumber, lmpSymbols, Wrote};
 
 // A place in the output, and the disparity there.
@@ -142,22 +141,6 @@ pub fn write_data(channel: u32, bytes: &[u8], bad: bool, disparity: i32, out: &m
     }
 }
 
-fn is_segment_size(s: u32) -> bool
-    ensures { λ r. ⌜ r ≡ isSegmentSize s ⌝ }
-{
-    match s {
-        8 => true,
-        16 => true,
-        32 => true,
-        64 => true,
-        128 => true,
-        256 => true,
-        512 => true,
-        1024 => true,
-        _ => false,
-    }
-}
-
 // One whole priority packet, for segments of S bytes.
 pub fn write_priority(
     size: u32,
@@ -180,7 +163,7 @@ pub fn write_priority(
     if 15 < segment {
         return Written::Refused(refusal::OUT_OF_RANGE);
     }
-    if !is_segment_size(size) {
+    if !segment_size::size_is_allowed(size) {
         return Written::Refused(refusal::SEGMENT_SIZE);
     }
     let n = bytes.len();

@@ -12,7 +12,7 @@ use Rattle.retry_rules.specs.declared.Offered.{Offered}
 use Rattle.retry_rules.specs.Refused.{refusedOffer}
 use Rattle.retry_rules.specs.Lent.{laid, bufferAt}
 use Rattle.retry_rules.specs.Offer.{offerChecks, freeSlot, nextNumber, storedIn, offerOf, offerBuffers}
-use Rattle.retry_rules.proofs.Rules.{size-range}
+use Rattle.segment_size.proofs.Ranges.{size-range}
 use Rattle.retry_rules.proofs.Seen.{Offers, offer-seen}
 use Rattle.retry_rules.proofs.Done.{offer-done, offer-lays}
 use Rattle.retry_parts.proofs.Calls.{refuses}

@@ -13,7 +13,7 @@ use Rattle.retry_rules.specs.declared.Sent.{Sent}
 use Rattle.retry_rules.specs.Refused.{refusedSend}
 use Rattle.retry_rules.specs.Lent.{laid, bufferAt, heldLength, heldBytes}
 use Rattle.retry_rules.specs.Send.{toSend, dueSlot, sendChecks, dueSent, nothingSent, sendOf, sendOutput}
-use Rattle.retry_rules.proofs.Rules.{size-range}
+use Rattle.segment_size.proofs.Ranges.{size-range}
 use Rattle.retry_rules.proofs.StoredSlots.{Slot, stored-slot}
 use Rattle.retry_rules.proofs.Seen.{Sends, send-seen}
 use Rattle.retry_rules.proofs.Done.{send-done, send-lays, send-nothing}

@@ -10,14 +10,6 @@ use Rattle.laws.proofs.Cases.{by-test, cond-true, cond-false}
 use Rattle.refusal.specs.Order.{Check, refusalOf, outcome}
 use Rattle.refusal.proofs.Laws.{done, refused}
 
-pub or-true : (b : Bool) → b || true ≡ true
-or-true true = refl
-or-true false = refl
-
-pub or-false : (b : Bool) → b || false ≡ b
-or-false true = refl
-or-false false = refl
-
 module _ {A : Type 0} (cs : List Check) (n : ℕ) (is : n ≡ refusalOf cs) (f : ℕ → A) (x : A) {r : A} where
   -- it is refused, and its answer is what is made of the number
   pub refuses : (n ≡ 0 → ⊥) → r ≡ f n → r ≡ outcome cs f x

@@ -1,16 +1,6 @@
 // Segment numbers, 0 to 15 and round, and the two numbers that an end is made with.
 ghost use mathlib.Core.Path.{_≡_};
-ghost use Rattle.retry_rules.specs.Numbers.{sizeAllowed, timeAllowed, after, between, amongLast, oneMore, countRule};
-
-// S, the segment size, is 8, 16, 32 up to 1,024.
-pub fn size_is_allowed(size: u32) -> bool
-    ensures { λ r. ⌜ r ≡ sizeAllowed size ⌝ }
-{
-    match size {
-        8 | 16 | 32 | 64 | 128 | 256 | 512 | 1024 => true,
-        _ => false,
-    }
-}
+ghost use Rattle.retry_rules.specs.Numbers.{timeAllowed, after, between, amongLast, oneMore, countRule};
 
 // T columns, 1 to 65,535.
 pub fn time_is_allowed(columns: u32) -> bool

@@ -12,12 +12,13 @@ use Rattle.laws.proofs.Cases.{both-true, first-true}
 use Rattle.refusal.specs.Order.{Check, refusalOf}
 use Rattle.retry_rules.specs.declared.Receiver.{Receiver}
 use Rattle.retry_rules.specs.declared.Arrived.{Arrived}
-use Rattle.retry_rules.specs.Numbers.{sizeAllowed, countRule, amongLast}
+use Rattle.retry_rules.specs.Numbers.{countRule, amongLast}
+use Rattle.segment_size.specs.Sizes.{sizeAllowed}
 use Rattle.retry_rules.specs.States.{receiverRule}
 use Rattle.retry_rules.specs.Refused.{refusedArrival}
 use Rattle.retry_rules.specs.Lent.{laid}
 use Rattle.retry_rules.specs.Arrival.{wanted, arrivalChecks, undelivered, nackOf, delivery, answerTo, arrivalOf, arrivalOutput}
-use Rattle.retry_rules.proofs.Rules.{size-range}
+use Rattle.segment_size.proofs.Ranges.{size-range}
 use Rattle.retry_rules.proofs.Seen.{Arrives, arrival-seen}
 use Rattle.retry_rules.proofs.Done.{arrival-done, arrival-lays}
 use Rattle.retry_parts.proofs.Calls.{refuses}

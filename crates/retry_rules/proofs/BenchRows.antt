@@ -1,7 +1,8 @@
 -- The bench's rows on the retry, and the further runs, hold of the definitions.
 -- Assumes nothing.
 use mathlib.Core.Path.{refl}
-use Rattle.retry_rules.specs.Numbers.{sizeAllowed, amongLast, countRule}
+use Rattle.retry_rules.specs.Numbers.{amongLast, countRule}
+use Rattle.segment_size.specs.Sizes.{sizeAllowed}
 use Rattle.retry_rules.specs.States.{linkRule, timerRule, windowRule, countersRule, slotRule, slotsRule, senderRule, receiverRule}
 use Rattle.retry_rules.specs.Fresh.{freshSenderOf, freshReceiverOf, freshChecks, sizeChecks, resetChecks, resetOf}
 use Rattle.retry_rules.specs.Lent.{laid, heldBytes}

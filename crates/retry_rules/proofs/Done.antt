@@ -9,7 +9,7 @@ use Rattle.laws.proofs.Cases.{cond-true, cond-false}
 use Rattle.refusal.proofs.Laws.{done}
 use Rattle.retry_rules.specs.declared.Sender.{Sender}
 use Rattle.retry_rules.specs.declared.Receiver.{Receiver}
-use Rattle.retry_rules.specs.Numbers.{sizeAllowed}
+use Rattle.segment_size.specs.Sizes.{sizeAllowed}
 use Rattle.retry_rules.specs.States.{senderRule, receiverRule}
 use Rattle.retry_rules.specs.Refused.{refusedSender, refusedOffer, refusedSend, refusedTick, refusedReceiver, refusedArrival}
 use Rattle.retry_rules.specs.Fresh.{freshSender, freshReceiver, noSender, noReceiver, freshChecks, freshSenderOf, sizeChecks, freshReceiverOf, resetChecks, resetOf}

@@ -15,7 +15,8 @@ use Rattle.retry_rules.specs.declared.Answered.{Answered}
 use Rattle.retry_rules.specs.declared.Offered.{Offered}
 use Rattle.retry_rules.specs.declared.Sent.{Sent}
 use Rattle.retry_rules.specs.declared.Ticked.{Ticked}
-use Rattle.retry_rules.specs.Numbers.{sizeAllowed, timeAllowed}
+use Rattle.retry_rules.specs.Numbers.{timeAllowed}
+use Rattle.segment_size.specs.Sizes.{sizeAllowed}
 use Rattle.retry_rules.specs.States.{senderRule, Eight}
 use Rattle.retry_rules.specs.Offer.{oneStored, offerChecks, offerOf}
 use Rattle.retry_rules.specs.Send.{toSend, sendPoint, oneSent, sendChecks, sendOf}
@@ -25,7 +26,7 @@ use Rattle.retry_rules.specs.Fresh.{resetChecks, resetOf}
 use Rattle.retry_rules.specs.Refused.{refusedSender, refusedOffer, refusedSend, refusedTick}
 use Rattle.retry_rules.specs.Calls.{SenderCall, offer, send, reply, damaged-reply, tick, reset, Told, onlyRefusal, offerTells, sendTells, tickTells, senderCalled, senderTells, ourSender}
 use Rattle.retry_rules.specs.Ledger.{Ledger, blank, waitsForReply, oldestNumber, oneAccepted, oneOut, timed, entry, entered, senderAfter, ledgerAfter}
-use Rattle.retry_rules.proofs.Outcomes.{either-way}
+use Rattle.refusal.proofs.Outcomes.{either-way}
 use Rattle.retry_rules.proofs.Rules.{Numbers}
 use Rattle.retry_rules.proofs.Seen.{sender-seen, reply-seen, send-seen, Begins}
 use Rattle.retry_rules.proofs.Kept.{offer-kept, send-kept, reply-kept, damaged-reply-kept, tick-kept, reset-kept, fresh-sender-kept, eight-after}

@@ -17,7 +17,8 @@ use Rattle.retry_rules.specs.declared.Sent.{Sent}
 use Rattle.retry_rules.specs.declared.Ticked.{Ticked}
 use Rattle.retry_rules.specs.declared.Begun.{Begun}
 use Rattle.retry_rules.specs.declared.Arrived.{Arrived}
-use Rattle.retry_rules.specs.Numbers.{sizeAllowed, countRule, amongLast}
+use Rattle.retry_rules.specs.Numbers.{countRule, amongLast}
+use Rattle.segment_size.specs.Sizes.{sizeAllowed}
 use Rattle.retry_rules.specs.States.{countersRule, slotsRule, senderRule, receiverRule, Eight}
 use Rattle.retry_rules.specs.Refused.{refusedSender, refusedOffer, refusedSend, refusedTick, refusedReceiver, refusedArrival}
 use Rattle.retry_rules.specs.Fresh.{noSender, noReceiver, freshSender, freshReceiver, freshChecks, freshSenderOf, sizeChecks, freshReceiverOf, resetChecks, resetOf}
@@ -27,7 +28,7 @@ use Rattle.retry_rules.specs.Reply.{toOldest, restarted, heard, senderCh
 use Rattle.retry_rules.specs.Tick.{expired, fallen, ticked, tickOf}
 use Rattle.retry_rules.specs.Arrival.{arrivalChecks, advanced, answerTo, arrivalOf, receiverChecks, damagedArrivalOf}
 use Rattle.retry_rules.specs.Calls.{SenderCall, offer, send, reply, damaged-reply, tick, reset, senderCalled}
-use Rattle.retry_rules.proofs.Outcomes.{either-way}
+use Rattle.refusal.proofs.Outcomes.{either-way}
 use Rattle.retry_rules.proofs.Rules.{counted, count-kept, Numbers, Holds, keeps}
 use Rattle.retry_rules.proofs.Steps.{heard-cases, ticked-cases}
 use Rattle.retry_rules.proofs.StoredSlots.{slots-kept, Later, later-kept, stored-kept}

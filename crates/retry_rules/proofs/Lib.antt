@@ -1,4 +1,3 @@
-pub mod Outcomes
 pub mod Rules
 pub mod Steps
 pub mod StoredSlots

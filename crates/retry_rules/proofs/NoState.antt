@@ -1,11 +1,11 @@
 -- All zeros is no sender and no receiver: every call on them is refused with 1.
 -- Assumes nothing.
 use mathlib.Core.Path.{_≡_, refl, _∙_}
-use mathlib.Core.Bool.{Bool, true, false, _||_}
+use mathlib.Core.Bool.{true, false, or-true}
 use mathlib.Core.List.{List}
 use Rattle.laws.proofs.Cases.{cond-true, cond-false}
 use Rattle.refusal.specs.Order.{Check, given, refusalOf}
-use Rattle.retry_rules.specs.Numbers.{sizeAllowed}
+use Rattle.segment_size.specs.Sizes.{sizeAllowed}
 use Rattle.retry_rules.specs.States.{countersRule, senderRule, receiverRule}
 use Rattle.retry_rules.specs.Fresh.{noSender, noReceiver, freshChecks, resetChecks}
 use Rattle.retry_rules.specs.Offer.{offerChecks}
@@ -14,10 +14,6 @@ use Rattle.retry_rules.specs.Reply.{senderChecks, replyChecks}
 use Rattle.retry_rules.specs.Arrival.{arrivalChecks, receiverChecks}
 use Rattle.retry_rules.specs.Calls.{SenderCall, offer, send, reply, damaged-reply, tick, reset, senderTells, ReceiverCall, arrival, damaged-arrival, receiverAnswer}
 use Rattle.retry_rules.proofs.Refusals.{offer-number, send-number, reply-number, damaged-reply-number, tick-number, reset-number, arrival-number, damaged-arrival-number}
-
-or-true : (a : Bool) → a || true ≡ true
-or-true true = refl
-or-true false = refl
 
 one : (cs : List Check) → given 7 cs ≡ false → given 8 cs ≡ false → given 1 cs ≡ true → refusalOf cs ≡ 1
 one cs p q r = cond-false (given 7 cs) 7 _ p ∙ cond-false (given 8 cs) 8 _ q ∙ cond-true (given 1 cs) 1 _ r

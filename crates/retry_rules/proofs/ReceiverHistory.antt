@@ -10,14 +10,15 @@ use borrow.Author.Tests.{eqb-true, eqb-false}
 use Rattle.laws.proofs.Cases.{by-cases, both-true, false-is-not-true}
 use Rattle.retry_rules.specs.declared.Receiver.{Receiver}
 use Rattle.retry_rules.specs.declared.Arrived.{Arrived}
-use Rattle.retry_rules.specs.Numbers.{sizeAllowed, countRule, amongLast}
+use Rattle.retry_rules.specs.Numbers.{countRule, amongLast}
+use Rattle.segment_size.specs.Sizes.{sizeAllowed}
 use Rattle.retry_rules.specs.States.{receiverRule}
 use Rattle.retry_rules.specs.Refused.{refusedArrival}
 use Rattle.retry_rules.specs.Arrival.{arrivalChecks, answerTo, arrivalOf, receiverChecks, damagedArrivalOf}
 use Rattle.retry_rules.specs.Calls.{ReceiverCall, arrival, damaged-arrival, receiverAnswer, receiverTells, ourReceiver}
 use Rattle.retry_rules.specs.Ledger.{receiverAfter, deliveredAfter}
 use Rattle.retry_rules.specs.History.{Recent, ByHistory, JudgesByHistory}
-use Rattle.retry_rules.proofs.Outcomes.{either-way}
+use Rattle.refusal.proofs.Outcomes.{either-way}
 use Rattle.retry_rules.proofs.Rules.{count-kept}
 use Rattle.retry_rules.proofs.Seen.{arrival-seen, arrival-passes}
 use Rattle.retry_rules.proofs.Refusals.{arrival-number}

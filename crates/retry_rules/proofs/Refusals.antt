@@ -25,7 +25,7 @@ use Rattle.retry_rules.specs.Send.{toSend, sendChecks, sendOf, sendOutpu
 use Rattle.retry_rules.specs.Reply.{senderChecks, replyChecks, replyOf, damagedReplyOf}
 use Rattle.retry_rules.specs.Tick.{tickOf}
 use Rattle.retry_rules.specs.Arrival.{arrivalChecks, answerTo, arrivalOf, arrivalOutput, receiverChecks, damagedArrivalOf}
-use Rattle.retry_rules.proofs.Outcomes.{number-is, leaves-answer}
+use Rattle.refusal.proofs.Outcomes.{number-is, leaves-answer}
 
 -- the number that each call answers with is that of its checks
 module _ (s : Sender) where

@@ -11,7 +11,8 @@ use Rattle.laws.proofs.Bools.{T-true, true-T}
 use Rattle.laws.proofs.Listed.{one-of-all}
 use Rattle.laws.proofs.Cases.{by-cases, by-test, both-true, first-true, second-true, either-true}
 use Rattle.retry_rules.specs.declared.Counters.{Counters}
-use Rattle.retry_rules.specs.Numbers.{sizeAllowed, timeAllowed, countRule}
+use Rattle.retry_rules.specs.Numbers.{timeAllowed, countRule}
+use Rattle.segment_size.specs.Sizes.{sizeAllowed}
 use Rattle.retry_rules.specs.States.{isUp, isDown, linkRule, timerRule, windowRule, countersRule}
 
 -- a number and the count of the last eight before it. A count below eight is the number itself
@@ -44,14 +45,6 @@ count-kept n k h =
     (λ t.
     let a = ltb-false k 8 t in
     both-true (eqb k 8) (ltb n 16) (eq-eqb k 8 (omega arith)) (lt-ltb n 16 (h .number-lt)))
-
--- S lies from 8 to 1,024
-pub size-range : (s : ℕ) → sizeAllowed s ≡ true → (8 ≤ s) × (s ≤ 1024)
-unfolding sizeAllowed
-size-range s q =
-    let f : ℕ → Bool = λ n. leb 8 n && leb n 1024 in
-    let t = T-true (f s) (one-of-all f (8 ∷ 16 ∷ 32 ∷ 64 ∷ 128 ∷ 256 ∷ 512 ∷ 1024 ∷ []) s tt (true-T (sizeAllowed s) q)) in
-    (leb-true 8 s (first-true (leb 8 s) (leb s 1024) t), leb-true s 1024 (second-true (leb 8 s) (leb s 1024) t))
 
 -- the link is 1 or 2; with 1, at most two expiries are counted; with 2, three, the timer stands at its start and something is outstanding.
 -- With nothing outstanding the timer stands at its start and no expiry is counted

@@ -12,7 +12,8 @@ use Rattle.laws.proofs.Cases.{both-true, first-true, second-true, false-is-not-
 use Rattle.refusal.specs.Order.{Check, refusalOf}
 use Rattle.retry_rules.specs.declared.Sender.{Sender}
 use Rattle.retry_rules.specs.declared.Receiver.{Receiver}
-use Rattle.retry_rules.specs.Numbers.{sizeAllowed, timeAllowed}
+use Rattle.retry_rules.specs.Numbers.{timeAllowed}
+use Rattle.segment_size.specs.Sizes.{sizeAllowed}
 use Rattle.retry_rules.specs.States.{isDown, countersRule, slotsRule, senderRule, buffersRule, receiverRule}
 use Rattle.retry_rules.specs.Fresh.{freshChecks, sizeChecks, resetChecks}
 use Rattle.retry_rules.specs.Lent.{heldLength}
@@ -20,7 +21,7 @@ use Rattle.retry_rules.specs.Offer.{offerChecks}
 use Rattle.retry_rules.specs.Send.{toSend, dueSlot, sendChecks}
 use Rattle.retry_rules.specs.Reply.{senderChecks, replyChecks}
 use Rattle.retry_rules.specs.Arrival.{wanted, arrivalChecks, receiverChecks}
-use Rattle.retry_rules.proofs.Outcomes.{passed, numbered, has-passed, is-not-refused}
+use Rattle.refusal.proofs.Outcomes.{passed, numbered, has-passed, is-not-refused}
 use Rattle.retry_rules.proofs.Rules.{Holds, holds, keeps}
 
 -- one check that does not apply, and the others

@@ -15,7 +15,8 @@ use Rattle.retry_rules.specs.declared.Answered.{Answered}
 use Rattle.retry_rules.specs.declared.Offered.{Offered}
 use Rattle.retry_rules.specs.declared.Sent.{Sent}
 use Rattle.retry_rules.specs.declared.Ticked.{Ticked}
-use Rattle.retry_rules.specs.Numbers.{sizeAllowed, timeAllowed, amongLast}
+use Rattle.retry_rules.specs.Numbers.{timeAllowed, amongLast}
+use Rattle.segment_size.specs.Sizes.{sizeAllowed}
 use Rattle.retry_rules.specs.States.{isDown, senderRule}
 use Rattle.retry_rules.specs.Refused.{refusedSend}
 use Rattle.retry_rules.specs.Offer.{offerChecks, nextNumber}
@@ -25,7 +26,7 @@ use Rattle.retry_rules.specs.Tick.{ticked}
 use Rattle.retry_rules.specs.Calls.{SenderCall, offer, send, reply, damaged-reply, tick, reset, isReset, senderTells, sendTells, ourSender}
 use Rattle.retry_rules.specs.Ledger.{Ledger, blank, waitsForReply, oldestNumber, senderAfter, ledgerAfter}
 use Rattle.retry_rules.specs.History.{Recent, Due, CountsExpiries, TakesOffers, HearsByHistory}
-use Rattle.retry_rules.proofs.Outcomes.{either-way}
+use Rattle.refusal.proofs.Outcomes.{either-way}
 use Rattle.retry_rules.proofs.Steps.{heard-cases, ticked-cases}
 use Rattle.retry_rules.proofs.StoredSlots.{stored-slot}
 use Rattle.retry_rules.proofs.Seen.{Sound, sound, rule-holds, sender-seen, Sends}

@@ -10,7 +10,8 @@ use lib.Dec.{ltb}
 use Rattle.laws.proofs.Cases.{false-is-not-true}
 use Rattle.retry_rules.specs.declared.Sender.{Sender}
 use Rattle.retry_rules.specs.declared.Receiver.{Receiver}
-use Rattle.retry_rules.specs.Numbers.{sizeAllowed, between, amongLast, countRule}
+use Rattle.retry_rules.specs.Numbers.{between, amongLast, countRule}
+use Rattle.segment_size.specs.Sizes.{sizeAllowed}
 use Rattle.retry_rules.specs.States.{linkRule, timerRule, windowRule, countersRule, slotRule, slotsRule, senderRule, receiverRule}
 use Rattle.retry_rules.specs.Fresh.{freshChecks, freshSenderOf, sizeChecks, freshReceiverOf, resetOf}
 use Rattle.retry_rules.specs.Offer.{offerChecks, offerOf}

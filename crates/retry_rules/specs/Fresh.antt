@@ -8,7 +8,8 @@ use Rattle.retry_rules.specs.declared.Sender.{Sender}
 use Rattle.retry_rules.specs.declared.Receiver.{Receiver}
 use Rattle.retry_rules.specs.declared.Answered.{Answered}
 use Rattle.retry_rules.specs.declared.Begun.{Begun}
-use Rattle.retry_rules.specs.Numbers.{sizeAllowed, timeAllowed}
+use Rattle.retry_rules.specs.Numbers.{timeAllowed}
+use Rattle.segment_size.specs.Sizes.{sizeAllowed}
 use Rattle.retry_rules.specs.States.{senderRule}
 use Rattle.retry_rules.specs.Refused.{refusedSender, refusedReceiver}
 

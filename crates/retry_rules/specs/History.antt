@@ -4,7 +4,8 @@ use mathlib.Core.Bool.{Bool, true, false}
 use mathlib.Core.List.{List}
 use mathlib.Core.Path.{_≡_}
 use mathlib.Core.Logic.{_↔_, _⊎_}
-use Rattle.retry_rules.specs.Numbers.{sizeAllowed, timeAllowed}
+use Rattle.retry_rules.specs.Numbers.{timeAllowed}
+use Rattle.segment_size.specs.Sizes.{sizeAllowed}
 use Rattle.retry_rules.specs.Calls.{SenderCall, offer, send, reply, tick, isReset, SenderEnd, ReceiverCall, arrival, damaged-arrival, Reply, ReceiverEnd}
 use Rattle.retry_rules.specs.Ledger.{Ledger, blank, waitsForReply, oldestNumber, senderAfter, ledgerAfter, receiverAfter, deliveredAfter}
 

@@ -3,11 +3,6 @@ use Prim.Native.Nat.{ℕ, zero, suc, _+_, _-_, _%_, min}
 use mathlib.Core.Bool.{Bool, true, cond, _&&_}
 use mathlib.Core.List.{[], _∷_}
 use lib.Dec.{ltb, leb, eqb}
-use Rattle.laws.specs.Lists.{oneOf}
-
--- S, the segment size, is 8, 16, 32 up to 1,024
-unfoldable pub sizeAllowed : ℕ → Bool
-sizeAllowed s = oneOf s (8 ∷ 16 ∷ 32 ∷ 64 ∷ 128 ∷ 256 ∷ 512 ∷ 1024 ∷ [])
 
 -- T columns, 1 to 65,535
 abbrev pub timeAllowed : ℕ → Bool

@@ -7,7 +7,8 @@ use lib.ListN.{length, getD}
 use Rattle.retry_rules.specs.declared.Counters.{Counters}
 use Rattle.retry_rules.specs.declared.Sender.{Sender}
 use Rattle.retry_rules.specs.declared.Receiver.{Receiver}
-use Rattle.retry_rules.specs.Numbers.{sizeAllowed, timeAllowed, countRule, everyBelow}
+use Rattle.retry_rules.specs.Numbers.{timeAllowed, countRule, everyBelow}
+use Rattle.segment_size.specs.Sizes.{sizeAllowed}
 
 abbrev pub isUp : Counters → Bool
 isUp c = eqb (c .link) 1

@@ -1,13 +1,13 @@
 // A fresh sender, and a sender that is reset.
 use crate::rule::sender_is_ruled;
 use refusal;
-use retry_parts::numbers::size_is_allowed;
 use retry_parts::numbers::time_is_allowed;
 use retry_rules::Answered;
 use retry_rules::Counters;
 use retry_rules::Sender;
 use retry_rules::Slots;
 use retry_rules::UP;
+use segment_size::size_is_allowed;
 ghost use mathlib.Core.Path.{_≡_};
 ghost use Rattle.refusal.specs.Order.{refusalOf};
 ghost use Rattle.retry_rules.specs.Refused.{refusedSender};

@@ -1,12 +1,12 @@
 // The written rule of a sender, and what every call but reset is refused with for its state alone.
 use refusal;
 use retry_parts::numbers::count_is_ruled;
-use retry_parts::numbers::size_is_allowed;
 use retry_parts::numbers::time_is_allowed;
 use retry_rules::Counters;
 use retry_rules::DOWN;
 use retry_rules::Sender;
 use retry_rules::UP;
+use segment_size::size_is_allowed;
 ghost use mathlib.Core.Path.{_≡_};
 ghost use mathlib.Core.Bool.{_&&_, _||_};
 ghost use lib.Dec.{ltb, leb, eqb};

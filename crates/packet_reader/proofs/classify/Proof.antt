@@ -5,7 +5,7 @@ use mathlib.Core.Path.{_≡_, refl, ap, sym, _∙_}
 use borrow.Author.Tests.{le-leb, lt-leb, lt-ltb, le-ltb, eq-eqb, ne-eqb}
 use Rattle.symbol.specs.Symbols.{isTwelve}
 use Rattle.packet_rules.specs.Symbols.{controlKind, kindOf}
-use Rattle.packet_reader.specs.Tree.{classOf}
+use Rattle.packet_reader.specs.Classes.{classOf}
 use Rattle.packet_reader.proofs.classify.Statement.{statement}
 use Rattle.packet_reader.proofs.classify.Tie as tie
 

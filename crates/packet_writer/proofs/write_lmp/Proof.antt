@@ -16,7 +16,7 @@ use Rattle.laws.proofs.Bools.{true-T}
 use Rattle.refusal.specs.Order.{refusalOf}
 use Rattle.symbol.specs.Symbols.{isTwelve}
 use Rattle.character_rules.specs.Disparity.{isDisparity}
-use Rattle.packet_rules.specs.State.{isSegmentSize}
+use Rattle.segment_size.specs.Sizes.{sizeAllowed}
 use Rattle.packet_rules.specs.Packets.{inData, inPriority, retry, symbolsOf, packetChecks, wrote}
 use Rattle.packet_writer.specs.Writing.{Wrote}
 use Rattle.packet_writer.proofs.Outcome.{refused-with, written-all}

@@ -16,7 +16,7 @@ use Rattle.laws.proofs.Bools.{true-T}
 use Rattle.refusal.specs.Order.{refusalOf}
 use Rattle.symbol.specs.Symbols.{isTwelve}
 use Rattle.character_rules.specs.Disparity.{isDisparity}
-use Rattle.packet_rules.specs.State.{isSegmentSize}
+use Rattle.segment_size.specs.Sizes.{sizeAllowed}
 use Rattle.packet_rules.specs.Packets.{inData, inPriority, retry, symbolsOf, packetChecks, wrote}
 use Rattle.packet_writer.specs.Writing.{Wrote}
 use Rattle.packet_writer.proofs.Outcome.{refused-with, written-all}
@@ -56,8 +56,8 @@ returns-3 c =
     let i : isDisparity d ≡ true = ap isDisparity (sym z) ∙ sym (c .before .before .before .is-disparity .ensures) ∙ not-false _ (c .before .before .if1 .left) in
     refused-with (a .size) m d (a .out .now) 1 (simp (i, le-ltb 15 (a .channel) (c .before .if2 .left), lt-ltb 15 (a .segment) (c .if3 .taken))) (λ e. omega (arith, e))
 
-is-segment-size-requires : tie.Need-is-segment-size-requires
-is-segment-size-requires c κs = search needs
+size-is-allowed-requires : tie.Need-size-is-allowed-requires
+size-is-allowed-requires c κs = search needs
 
 returns-4 : tie.Need-returns-4
 returns-4 c =
@@ -67,7 +67,7 @@ returns-4 c =
     let m = inPriority (a .channel) (a .segment) (a .bytes .now) (a .bad) in
     let z = toZ-ofZ w32 d (b .fits .disparity) in
     let i : isDisparity d ≡ true = ap isDisparity (sym z) ∙ sym (c .before .before .before .before .before .is-disparity .ensures) ∙ not-false _ (c .before .before .before .before .if1 .left) in
-    refused-with (a .size) m d (a .out .now) 2 (simp (i, le-ltb 15 (a .channel) (c .before .before .before .if2 .left), le-ltb 15 (a .segment) (c .before .before .if3 .left), sym (c .before .is-segment-size .ensures) ∙ not-true _ (c .if4 .taken), or-true)) (λ e. omega (arith, e))
+    refused-with (a .size) m d (a .out .now) 2 (simp (i, le-ltb 15 (a .channel) (c .before .before .before .if2 .left), le-ltb 15 (a .segment) (c .before .before .if3 .left), sym (c .before .size-is-allowed .ensures) ∙ not-true _ (c .if4 .taken), or-true)) (λ e. omega (arith, e))
 
 returns-5 : tie.Need-returns-5
 returns-5 c =
@@ -77,7 +77,7 @@ returns-5 c =
     let m = inPriority (a .channel) (a .segment) (a .bytes .now) (a .bad) in
     let z = toZ-ofZ w32 d (b .fits .disparity) in
     let i : isDisparity d ≡ true = ap isDisparity (sym z) ∙ sym (c .before .before .before .before .before .before .is-disparity .ensures) ∙ not-false _ (c .before .before .before .before .before .if1 .left) in
-    refused-with (a .size) m d (a .out .now) 2 (simp (i, le-ltb 15 (a .channel) (c .before .before .before .before .if2 .left), le-ltb 15 (a .segment) (c .before .before .before .if3 .left), sym (c .before .before .is-segment-size .ensures) ∙ not-false _ (c .before .if4 .left), lt-ltb (a .size) (length (a .bytes .now)) (c .if5 .taken))) (λ e. omega (arith, e))
+    refused-with (a .size) m d (a .out .now) 2 (simp (i, le-ltb 15 (a .channel) (c .before .before .before .before .if2 .left), le-ltb 15 (a .segment) (c .before .before .before .if3 .left), sym (c .before .before .size-is-allowed .ensures) ∙ not-false _ (c .before .if4 .left), lt-ltb (a .size) (length (a .bytes .now)) (c .if5 .taken))) (λ e. omega (arith, e))
 
 returns-6 : tie.Need-returns-6
 returns-6 c =
@@ -87,7 +87,7 @@ returns-6 c =
     let m = inPriority (a .channel) (a .segment) (a .bytes .now) (a .bad) in
     let z = toZ-ofZ w32 d (b .fits .disparity) in
     let i : isDisparity d ≡ true = ap isDisparity (sym z) ∙ sym (c .before .before .before .before .before .before .before .is-disparity .ensures) ∙ not-false _ (c .before .before .before .before .before .before .if1 .left) in
-    refused-with (a .size) m d (a .out .now) 4 (simp (i, le-ltb 15 (a .channel) (c .before .before .before .before .before .if2 .left), le-ltb 15 (a .segment) (c .before .before .before .before .if3 .left), sym (c .before .before .before .is-segment-size .ensures) ∙ not-false _ (c .before .before .if4 .left), le-ltb (a .size) (length (a .bytes .now)) (c .before .if5 .left), eq-eqb (length (a .bytes .now)) 0 (c .if6 .taken))) (λ e. omega (arith, e))
+    refused-with (a .size) m d (a .out .now) 4 (simp (i, le-ltb 15 (a .channel) (c .before .before .before .before .before .if2 .left), le-ltb 15 (a .segment) (c .before .before .before .before .if3 .left), sym (c .before .before .before .size-is-allowed .ensures) ∙ not-false _ (c .before .before .if4 .left), le-ltb (a .size) (length (a .bytes .now)) (c .before .if5 .left), eq-eqb (length (a .bytes .now)) 0 (c .if6 .taken))) (λ e. omega (arith, e))
 
 add-if7 : tie.Need-add-if7
 add-if7 c = search needs
@@ -100,7 +100,7 @@ returns-7 c =
     let m = inPriority (a .channel) (a .segment) (a .bytes .now) (a .bad) in
     let z = toZ-ofZ w32 d (b .fits .disparity) in
     let i : isDisparity d ≡ true = ap isDisparity (sym z) ∙ sym (c .before .before .before .before .before .before .before .before .is-disparity .ensures) ∙ not-false _ (c .before .before .before .before .before .before .before .if1 .left) in
-    refused-with (a .size) m d (a .out .now) 6 (simp (i, le-ltb 15 (a .channel) (c .before .before .before .before .before .before .if2 .left), le-ltb 15 (a .segment) (c .before .before .before .before .before .if3 .left), sym (c .before .before .before .before .is-segment-size .ensures) ∙ not-false _ (c .before .before .before .if4 .left), le-ltb (a .size) (length (a .bytes .now)) (c .before .before .if5 .left), ne-eqb (length (a .bytes .now)) 0 (c .before .if6 .left), lt-ltb (length (a .out .now)) (length (a .bytes .now) + 6) (c .if7 .taken))) (λ e. omega (arith, e))
+    refused-with (a .size) m d (a .out .now) 6 (simp (i, le-ltb 15 (a .channel) (c .before .before .before .before .before .before .if2 .left), le-ltb 15 (a .segment) (c .before .before .before .before .before .if3 .left), sym (c .before .before .before .before .size-is-allowed .ensures) ∙ not-false _ (c .before .before .before .if4 .left), le-ltb (a .size) (length (a .bytes .now)) (c .before .before .if5 .left), ne-eqb (length (a .bytes .now)) 0 (c .before .if6 .left), lt-ltb (length (a .out .now)) (length (a .bytes .now) + 6) (c .if7 .taken))) (λ e. omega (arith, e))
 
 mul-opening : tie.Need-mul-opening
 mul-opening c = search needs
@@ -135,9 +135,9 @@ returns-8 c =
     let z = toZ-ofZ w32 d (b .fits .disparity) in
     let i : isDisparity d ≡ true = ap isDisparity (sym z) ∙ sym (c .before .before .before .before .before .before .before .before .before .before .before .before .before .is-disparity .ensures) ∙ not-false _ (c .before .before .before .before .before .before .before .before .before .before .before .before .if1 .left) in
     let h : (16 * a .segment + a .channel) % 256 ≡ 16 * a .segment + a .channel = omega arith in
-    let no : refusalOf (packetChecks (a .size) m d (length (a .out .now))) ≡ 0 = simp (i, le-ltb 15 (a .channel) (c .before .before .before .before .before .before .before .before .before .before .before .if2 .left), le-ltb 15 (a .segment) (c .before .before .before .before .before .before .before .before .before .before .if3 .left), sym (c .before .before .before .before .before .before .before .before .before .is-segment-size .ensures) ∙ not-false _ (c .before .before .before .before .before .before .before .before .if4 .left), le-ltb (a .size) (length (a .bytes .now)) (c .before .before .before .before .before .before .before .if5 .left), ne-eqb (length (a .bytes .now)) 0 (c .before .before .before .before .before .before .if6 .left), le-ltb (length (a .out .now)) (length (a .bytes .now) + 6) (c .before .before .before .before .before .if7 .left)) in
+    let no : refusalOf (packetChecks (a .size) m d (length (a .out .now))) ≡ 0 = simp (i, le-ltb 15 (a .channel) (c .before .before .before .before .before .before .before .before .before .before .before .if2 .left), le-ltb 15 (a .segment) (c .before .before .before .before .before .before .before .before .before .before .if3 .left), sym (c .before .before .before .before .before .before .before .before .before .size-is-allowed .ensures) ∙ not-false _ (c .before .before .before .before .before .before .before .before .if4 .left), le-ltb (a .size) (length (a .bytes .now)) (c .before .before .before .before .before .before .before .if5 .left), ne-eqb (length (a .bytes .now)) 0 (c .before .before .before .before .before .before .if6 .left), le-ltb (length (a .out .now)) (length (a .bytes .now) + 6) (c .before .before .before .before .before .if7 .left)) in
     let w = written-all (a .size) m d (a .out .now) no (rw (h, z) at (c .before .before .before .put-packet .ensures)) in
     (ap (wrote (c .before .before .before .put-packet .result .at)) (toZ-ofZ w32 (c .before .before .before .put-packet .result .disparity) (search needs)) ∙ w .0, w .1)
 
 pub write-priority-spec : {M : Type 1} → statement M
-write-priority-spec = tie.close (tie.spec is-disparity-requires returns returns-2 returns-3 is-segment-size-requires returns-4 returns-5 returns-6 add-if7 returns-7 mul-opening add-opening cast-opening put-packet-requires same-length returns-8)
+write-priority-spec = tie.close (tie.spec is-disparity-requires returns returns-2 returns-3 size-is-allowed-requires returns-4 returns-5 returns-6 add-if7 returns-7 mul-opening add-opening cast-opening put-packet-requires same-length returns-8)

@@ -4,7 +4,7 @@ use mathlib.Core.Path.{sym, _∙_}
 use borrow.Author.Needs.{needs}
 use borrow.Author.Tests.{eq-eqb, le-ltb, lt-ltb, ne-eqb, not-false, not-true}
 use Rattle.retry_rules.specs.Arrival.{arrivalChecks}
-use Rattle.retry_parts.proofs.Calls.{or-true}
+use mathlib.Core.Bool.{or-true}
 use Rattle.retry_receiver.proofs.arrival_refusal.Statement.{statement}
 use Rattle.retry_receiver.proofs.arrival_refusal.Tie as tie
 

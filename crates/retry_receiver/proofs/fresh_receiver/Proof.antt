@@ -4,7 +4,7 @@ use mathlib.Core.Path.{sym, _∙_}
 use borrow.Author.Needs.{needs}
 use native.Mathlib.Omega.{arith}
 use Rattle.retry_rules.specs.Fresh.{freshReceiverOf, sizeChecks}
-use Rattle.retry_rules.proofs.Rules.{size-range}
+use Rattle.segment_size.proofs.Ranges.{size-range}
 use Rattle.retry_receiver.proofs.fresh_receiver.Statement.{statement}
 use Rattle.retry_receiver.proofs.fresh_receiver.Tie as tie
 

@@ -5,7 +5,7 @@ use borrow.Author.Needs.{needs}
 use borrow.Author.Tests.{not-true}
 use borrow.Author.Tests.{not-false}
 use Rattle.retry_rules.specs.Fresh.{freshChecks, resetChecks}
-use Rattle.retry_parts.proofs.Calls.{or-true, or-false}
+use mathlib.Core.Bool.{or-true, or-false}
 use Rattle.retry_state.proofs.beginning.reset_refusal.Statement.{statement}
 use Rattle.retry_state.proofs.beginning.reset_refusal.Tie as tie
 

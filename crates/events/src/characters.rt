@@ -1,0 +1,44 @@
+// A character of a capture, and its result by one look-up in the table, which is lent.
+ghost use mathlib.Core.Path.{_≡_};
+ghost use Prim.Native.Nat.{_≤_, _<_};
+ghost use lib.ListN.{length, getD};
+ghost use Rattle.character.specs.Entries.{resultIn};
+ghost use Rattle.character.specs.Table.{table};
+ghost use Rattle.character_rules.specs.Disparity.{disparityOf};
+ghost use Rattle.character_rules.specs.Reading.{reading};
+ghost use Rattle.character_rules.specs.Results.{packed};
+ghost use Rattle.capture_rules.specs.Capture.{characterCount, charactersOf};
+
+fn wide(x: u8) -> usize
+    ensures { λ r. ⌜ r ≡ x ⌝ }
+{
+    x as usize
+}
+
+// The ten bits from bit 10 i on, which lie in two bytes.
+pub(crate) fn ten_bits(capture: &[u8], i: usize) -> usize
+    requires { ⌜ (length (now capture) ≤ 65535) × (i < characterCount (length (now capture))) ⌝ }
+    ensures { λ r. ⌜ r ≡ getD (charactersOf (now (capture .entry))) i 0 ⌝ }
+{
+    let k = 10 * i / 8;
+    let two = wide(capture[k]) * 256 + wide(capture[k + 1]);
+    (two >> (6 - 10 * i % 8)) % 1024
+}
+
+// The result that an entry holds for a disparity.
+fn result_in(entry: u16, plus: bool) -> u16
+    ensures { λ r. ⌜ r ≡ resultIn entry plus ⌝ }
+{
+    if plus {
+        return entry % 512 + entry / 4096 % 8 * 512;
+    }
+    entry % 4096
+}
+
+pub(crate) fn look_up(entries: &[u16; 1024], character: usize, plus: bool) -> u16
+    requires { ⌜ (now entries ≡ table) × (character < 1024) ⌝ }
+    ensures { λ r. ⌜ r ≡ packed (reading character (disparityOf plus)) ⌝ }
+{
+    let entry = entries[character];
+    result_in(entry, plus)
+}

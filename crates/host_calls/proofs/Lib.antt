@@ -1,0 +1,7 @@
+pub mod Same
+pub mod CharacterLaws
+pub mod CaptureLaws
+pub mod PacketLaws
+pub mod SenderLaws
+pub mod ReceiverLaws
+pub mod Refused

@@ -1,0 +1,5 @@
+pub mod CharacterCalls
+pub mod CaptureCalls
+pub mod PacketCalls
+pub mod SenderCalls
+pub mod ReceiverCalls

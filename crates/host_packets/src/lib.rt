@@ -1,0 +1,3 @@
+// What C calls of the packet reader and the packet writer.
+mod readers;
+mod writers;

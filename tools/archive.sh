@@ -1,0 +1,14 @@
+#!/usr/bin/env bash
+# Builds the archive that C links, target/staticlib/libhost.a. An archive of a crate has that crate's own exports alone: each room of the host is
+# proved once more and built by itself, and their objects are put into one.
+set -euo pipefail
+root=$(cd "$(dirname "$0")/.." && pwd)
+cd "$root"
+work=$(mktemp -d)
+trap 'rm -rf "$work"' EXIT
+for room in host_characters host_captures host_packets host_sender host_receiver; do
+  rt staticlib "$room"
+  (cd "$work" && ar x "$root/target/staticlib/lib$room.a")
+done
+rm -f target/staticlib/libhost.a
+"$(command -v llvm-ar || command -v ar)" rcs target/staticlib/libhost.a "$work"/*.o
