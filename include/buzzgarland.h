@@ -94,6 +94,15 @@ uint32_t buzz_reader_fresh(uint32_t size, buzz_reader *reader);
 uint32_t buzz_reader_step(buzz_reader *reader, uint32_t violation, uint32_t byte, uint32_t control,
                           uint32_t *event, uint32_t *value, uint32_t *number);
 
+/* A whole capture, an event for each character in the front of events; *count becomes their number, *reader and *disparity the ones after it.
+ * An event is one number: the kind BUZZ_EVENT(e), its value BUZZ_VALUE(e) and its segment number BUZZ_NUMBER(e), as buzz_reader_step gives them.
+ * 8: the capture is not legal; 1: bytes that encode no state, no disparity; 6: fewer places than characters. */
+#define BUZZ_EVENT(e) ((uint32_t)(e) >> 16)
+#define BUZZ_VALUE(e) ((uint32_t)(e) & 255u)
+#define BUZZ_NUMBER(e) (((uint32_t)(e) >> 8) & 255u)
+uint32_t buzz_read_capture(const uint8_t *capture, size_t length, buzz_reader *reader, int32_t *disparity,
+                           uint32_t *events, size_t room, size_t *count);
+
 /* ---- the packet writer: characters in the front of a run, *count of them; *disparity becomes the closing one ---- */
 
 /* A data packet of one or more bytes: length + 6 characters. 1: channel over 255, no disparity; 4; 6. */
@@ -106,6 +115,9 @@ uint32_t buzz_write_priority(uint32_t size, uint32_t channel, uint32_t segment, 
 
 /* A retry LMP, ACK or NACK: 4 characters. 1: number over 15, no disparity; 6. */
 uint32_t buzz_write_lmp(uint32_t nack, uint32_t number, int32_t *disparity, uint16_t *characters, size_t room, size_t *count);
+
+/* The CRC of a run of bytes, its two check bytes as a packet carries them. Never refused. */
+uint32_t buzz_crc16(const uint8_t *bytes, size_t length, uint8_t check[2]);
 
 /* ---- the sending end of the retry. buffers is one run of 8 times S bytes, which only these calls write. ---- */
 

@@ -6,7 +6,7 @@ root=$(cd "$(dirname "$0")/.." && pwd)
 cd "$root"
 work=$(mktemp -d)
 trap 'rm -rf "$work"' EXIT
-for room in host_characters host_captures host_packets host_sender host_receiver; do
+for room in host_characters host_captures host_packets host_events host_sender host_receiver; do
   rt staticlib "$room"
   (cd "$work" && ar x "$root/target/staticlib/lib$room.a")
 done

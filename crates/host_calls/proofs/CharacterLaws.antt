@@ -21,7 +21,8 @@ use Rattle.host_calls.specs.CharacterCalls.{Writes, writes, Reads, reads
 use Rattle.host_calls.proofs.Same.{same-called, given-is-not-none, refused-leaves, refused-number}
 
 module _ (byte control : ℕ) (old : Writes) where
-  pub write-done : (c : ℕ) (d : ℤ) → written c d ≡ writingNumbers byte control (old .disparity) → writes byte control old ≡ record { refusal = 0; lent = record { disparity = d; character = c } }
+  pub write-done : (c : ℕ) (d : ℤ) → written c d ≡ writingNumbers byte control (old .disparity)
+      → writes byte control old ≡ record { refusal = 0; lent = record { disparity = d; character = c } }
   unfolding writes
   write-done c d e = rw (← e) (done-called _ _ _ refl)
 

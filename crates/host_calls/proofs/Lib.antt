@@ -5,3 +5,4 @@ pub mod PacketLaws
 pub mod SenderLaws
 pub mod ReceiverLaws
 pub mod Refused
+pub mod EventLaws

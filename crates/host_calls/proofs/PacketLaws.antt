@@ -26,7 +26,8 @@ module _ (size : ℕ) (old : List ℕ) where
   unfolding begins
   begin-refused n e = rw (← e) (same-called n old)
 
-module _ (violation byte control : ℕ) (old : Steps) (a : Answer) (e : a ≡ stepNumbers (old .reader) violation byte control) (t : Told) (f : t ≡ toldOf (a .said)) where
+module _ (violation byte control : ℕ) (old : Steps) (a : Answer) (e : a ≡ stepNumbers (old .reader) violation byte control) (t : Told)
+    (f : t ≡ toldOf (a .said)) where
   pub step-refused : (t .refusal ≡ 0 → ⊥) → steps violation byte control old ≡ record { refusal = t .refusal; lent = old }
   unfolding steps
   step-refused h = rw (← e, ← f) (refused-called _ _ _ h)
@@ -52,7 +53,8 @@ module _ (size : ℕ) (packet : Packet) (old : WritesPacket) where
   packet-leaves : (n : ℕ) → notWrote n ≡ packetWriting size packet (old .disparity) (old .characters) → characters ≡ old .characters
   unfolding packetWriting packetOutput
   packet-leaves n e =
-      refused-leaves (packetChecks size packet (old .disparity) (length (old .characters))) notWrote (wrote (length (symbolsOf packet)) (closingOf (symbolsOf packet) (old .disparity))) n
+      refused-leaves (packetChecks size packet (old .disparity) (length (old .characters))) notWrote (wrote (length (symbolsOf packet))
+      (closingOf (symbolsOf packet) (old .disparity))) n
       (λ z. given-is-not-none (ap (λ (w : PacketWriting). w .count) z)) e (old .characters) _
 
   pub packet-refused :

@@ -30,11 +30,19 @@ module _ (old : ArrivesDamaged) (a : Arrived) (e : a ≡ damagedArrivalOf (recei
 
   pub damaged-done :
       a .refusal ≡ 0
-      → arrivesDamaged old ≡ record { refusal = a .refusal; lent = record { receiver = receiverBytes (a .receiver); nack = markNumber (a .nack); reply = a .number } }
+      → arrivesDamaged old ≡ record {
+        refusal = a .refusal;
+        lent = record {
+          receiver = receiverBytes (a .receiver);
+          nack = markNumber (a .nack);
+          reply = a .number;
+        };
+      }
   unfolding arrivesDamaged
   damaged-done h = rw (← e) (done-called _ _ _ h)
 
-module _ (number channel bad : ℕ) (bytes : List ℕ) (room : ℕ) (old : Arrives) (a : Arrived) (e : a ≡ arrivalOf (receiverIn (old .receiver)) number channel (markOf bad) (length bytes) (markOf room) (length (old .output))) where
+module _ (number channel bad : ℕ) (bytes : List ℕ) (room : ℕ) (old : Arrives) (a : Arrived)
+    (e : a ≡ arrivalOf (receiverIn (old .receiver)) number channel (markOf bad) (length bytes) (markOf room) (length (old .output))) where
   -- the output as the rule says, which on a refusal is as it stood
   abbrev pub after : List ℕ
   after = arrivalOutput (receiverIn (old .receiver)) number channel bytes (markOf room) (old .output)
@@ -57,7 +65,20 @@ module _ (number channel bad : ℕ) (bytes : List ℕ) (room : ℕ) (old : Arriv
       }
   unfolding arrives
   arrival-refused h =
-      rw (← e) (refused-called _ _ _ h ∙ sym (ap (λ (out : List ℕ). record { refusal = a .refusal; lent = record { receiver = old .receiver; output = out; delivered = old .delivered; channel = old .channel; bad = old .bad; size = old .size; nack = old .nack; reply = old .reply } }) (arrival-leaves (receiverIn (old .receiver)) number channel (markOf bad) bytes (markOf room) (old .output) (λ z. h (ap (λ (x : Arrived). x .refusal) e ∙ z)))))
+      rw (← e) (refused-called _ _ _ h ∙ sym (ap (λ (out : List ℕ). record {
+        refusal = a .refusal;
+        lent = record {
+          receiver = old .receiver;
+          output = out;
+          delivered = old .delivered;
+          channel = old .channel;
+          bad = old .bad;
+          size = old .size;
+          nack = old .nack;
+          reply = old .reply;
+        };
+      }) (arrival-leaves (receiverIn (old .receiver)) number channel (markOf bad) bytes (markOf room) (old .output)
+      (λ z. h (ap (λ (x : Arrived). x .refusal) e ∙ z)))))
 
   pub arrival-done :
       a .refusal ≡ 0

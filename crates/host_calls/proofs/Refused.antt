@@ -9,6 +9,7 @@ use Rattle.host_rules.proofs.Numbers.{lent-stands}
 use Rattle.host_calls.specs.CharacterCalls.{writes, reads, readsRun}
 use Rattle.host_calls.specs.CaptureCalls.{counts, finds, packs, unpacks}
 use Rattle.host_calls.specs.PacketCalls.{begins, steps, writesPacket}
+use Rattle.host_calls.specs.EventCalls.{readsCapture}
 use Rattle.host_calls.specs.SenderCalls.{beginsSender, resets, hears, hearsDamaged, ticks, offers, sends}
 use Rattle.host_calls.specs.ReceiverCalls.{beginsReceiver, arrives, arrivesDamaged}
 
@@ -55,6 +56,10 @@ step-keeps violation byte control old = lent-stands _ _ _
 pub packet-keeps : (size : ℕ) (packet : Packet) → Keeps (writesPacket size packet)
 unfolding writesPacket
 packet-keeps size packet old = lent-stands _ _ _
+
+pub capture-keeps : (capture : List ℕ) → Keeps (readsCapture capture)
+unfolding readsCapture
+capture-keeps capture old = lent-stands _ _ _
 
 pub begin-sender-keeps : (columns size : ℕ) → Keeps (beginsSender columns size)
 unfolding beginsSender

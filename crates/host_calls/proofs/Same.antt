@@ -10,7 +10,7 @@ use Rattle.laws.proofs.Cases.{by-cases, false-is-not-true}
 use Rattle.refusal.specs.Order.{Check, refusalOf, outcome, left}
 use Rattle.refusal.proofs.Laws.{done, refused, hands-back}
 use Rattle.host_rules.specs.Numbers.{stands, Called, called}
-use Rattle.host_rules.specs.Stepping.{isGiven}
+use Rattle.events_rules.specs.Numbers.{isGiven}
 
 -- where the call makes of all that is lent what stood there, it stands as it stood, whatever the number
 pub same-called : {A : Type 0} (n : ℕ) (old : A) → called n old old ≡ record { refusal = n; lent = old }

@@ -65,7 +65,8 @@ module _ (old : Ticks) (a : Ticked) (e : a ≡ tickOf (senderIn (old .sender))) 
   unfolding ticks
   tick-done h = rw (← e) (done-called _ _ _ h)
 
-module _ (channel bad : ℕ) (bytes : List ℕ) (old : Offers) (a : Offered) (e : a ≡ offerOf (senderIn (old .sender)) (length (old .buffers)) channel (markOf bad) (length bytes)) where
+module _ (channel bad : ℕ) (bytes : List ℕ) (old : Offers) (a : Offered) (e : a ≡ offerOf (senderIn (old .sender))
+    (length (old .buffers)) channel (markOf bad) (length bytes)) where
   -- the buffers as the rule says, which on a refusal are as they stood
   abbrev pub stored : List ℕ
   stored = offerBuffers (senderIn (old .sender)) (old .buffers) channel bytes
@@ -75,7 +76,15 @@ module _ (channel bad : ℕ) (bytes : List ℕ) (old : Offers) (a : Offered) (e 
       → offers channel bad bytes old ≡ record { refusal = a .refusal; lent = record { sender = old .sender; buffers = stored; number = old .number } }
   unfolding offers
   offer-refused h =
-      rw (← e) (refused-called _ _ _ h ∙ sym (ap (λ (out : List ℕ). record { refusal = a .refusal; lent = record { sender = old .sender; buffers = out; number = old .number } }) (offer-leaves (senderIn (old .sender)) (old .buffers) channel (markOf bad) bytes (λ z. h (ap (λ (x : Offered). x .refusal) e ∙ z)))))
+      rw (← e) (refused-called _ _ _ h ∙ sym (ap (λ (out : List ℕ). record {
+        refusal = a .refusal;
+        lent = record {
+          sender = old .sender;
+          buffers = out;
+          number = old .number;
+        };
+      }) (offer-leaves (senderIn (old .sender))
+      (old .buffers) channel (markOf bad) bytes (λ z. h (ap (λ (x : Offered). x .refusal) e ∙ z)))))
 
   pub offer-done :
       a .refusal ≡ 0
@@ -106,7 +115,18 @@ module _ (buffers : List ℕ) (old : Sends) (a : Sent) (e : a ≡ sendOf (sender
       }
   unfolding sends
   send-refused h =
-      rw (← e) (refused-called _ _ _ h ∙ sym (ap (λ (out : List ℕ). record { refusal = a .refusal; lent = record { sender = old .sender; output = out; sent = old .sent; number = old .number; channel = old .channel; bad = old .bad; size = old .size } }) (send-leaves (senderIn (old .sender)) buffers (old .output) (λ z. h (ap (λ (x : Sent). x .refusal) e ∙ z)))))
+      rw (← e) (refused-called _ _ _ h ∙ sym (ap (λ (out : List ℕ). record {
+        refusal = a .refusal;
+        lent = record {
+          sender = old .sender;
+          output = out;
+          sent = old .sent;
+          number = old .number;
+          channel = old .channel;
+          bad = old .bad;
+          size = old .size;
+        };
+      }) (send-leaves (senderIn (old .sender)) buffers (old .output) (λ z. h (ap (λ (x : Sent). x .refusal) e ∙ z)))))
 
   pub send-done :
       a .refusal ≡ 0

@@ -3,3 +3,4 @@ pub mod CaptureCalls
 pub mod PacketCalls
 pub mod SenderCalls
 pub mod ReceiverCalls
+pub mod EventCalls

@@ -48,7 +48,12 @@ pub extern "C" fn buzz_read_character(
     byte: &mut u32,
     control: &mut u32,
 ) -> u32
-    ensures { λ r. ⌜ (let old : Reads = record { disparity = now (disparity .entry); violation = now (violation .entry); byte = now (byte .entry); control = now (control .entry) } in
+    ensures { λ r. ⌜ (let old : Reads = record {
+      disparity = now (disparity .entry);
+      violation = now (violation .entry);
+      byte = now (byte .entry);
+      control = now (control .entry);
+    } in
         let after = reads character old in
         (r ≡ after .refusal) × (now (disparity .exit) ≡ after .lent .disparity) × (now (violation .exit) ≡ after .lent .violation)
         × (now (byte .exit) ≡ after .lent .byte) × (now (control .exit) ≡ after .lent .control)) ⌝ }

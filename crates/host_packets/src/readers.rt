@@ -29,7 +29,12 @@ pub extern "C" fn buzz_reader_step(
     value: &mut u32,
     number: &mut u32,
 ) -> u32
-    ensures { λ r. ⌜ (let old : Steps = record { reader = now (reader .entry); event = now (event .entry); value = now (value .entry); number = now (number .entry) } in
+    ensures { λ r. ⌜ (let old : Steps = record {
+      reader = now (reader .entry);
+      event = now (event .entry);
+      value = now (value .entry);
+      number = now (number .entry);
+    } in
         let after = steps violation byte control old in
         (r ≡ after .refusal) × (now (reader .exit) ≡ after .lent .reader) × (now (event .exit) ≡ after .lent .event)
         × (now (value .exit) ≡ after .lent .value) × (now (number .exit) ≡ after .lent .number)) ⌝ }

@@ -1,5 +1,5 @@
 // The packet reader's state in 15 bytes: stored, loaded, and stepped.
-mod loads;
+pub mod loads;
 mod parts;
 
 use character_rules::Decoded;

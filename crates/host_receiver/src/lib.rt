@@ -83,7 +83,8 @@ pub extern "C" fn buzz_receiver_damaged_arrival(
 ) -> u32
     ensures { λ r. ⌜ (let old : ArrivesDamaged = record { receiver = now (receiver .entry); nack = now (nack .entry); reply = now (reply .entry) } in
         let after = arrivesDamaged old in
-        (r ≡ after .refusal) × (now (receiver .exit) ≡ after .lent .receiver) × (now (nack .exit) ≡ after .lent .nack) × (now (reply .exit) ≡ after .lent .reply)) ⌝ }
+        (r ≡ after .refusal) × (now (receiver .exit) ≡ after .lent .receiver) × (now (nack .exit) ≡ after .lent .nack) × (now (reply .exit) ≡ after
+        .lent .reply)) ⌝ }
 {
     let given = host_retry::receiver_in(*receiver);
     let dropped = retry_receiver::damaged_arrival(given);

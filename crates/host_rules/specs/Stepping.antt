@@ -1,17 +1,18 @@
 -- A fresh reader and one step, in numbers and bytes.
 use Prim.Native.Nat.{ℕ}
-use mathlib.Core.Bool.{Bool, true, false, cond, not, _&&_}
+use mathlib.Core.Bool.{cond, not, _&&_}
 use mathlib.Core.List.{List, [], _∷_}
 use mathlib.Core.Option.{Option, none, some}
 use lib.Dec.{eqb, ltb}
 use lib.IntN.{ℤ, negsuc}
 use Rattle.refusal.specs.Order.{Check, check, outcome}
 use Rattle.character_rules.specs.Answers.{Reading, clean, wrongDisparity, invalid}
-use Rattle.packet_rules.specs.Answers.{Start, Reply, Said, Answer}
+use Rattle.packet_rules.specs.Answers.{Said, Answer}
 use Rattle.packet_rules.specs.declared.Reader.{Reader}
 use Rattle.packet_rules.specs.Step.{refusedStep, stepOf}
 use Rattle.host_rules.specs.declared.Told.{Told}
-use Rattle.host_rules.specs.Numbers.{markNumber, orOld}
+use Rattle.events_rules.specs.Numbers.{eventIn, valueIn, segmentIn}
+use Rattle.host_rules.specs.Numbers.{orOld}
 use Rattle.host_rules.specs.Characters.{symbolOf}
 use Rattle.host_rules.specs.ReaderBytes.{readerBytes, readerIn, isReader}
 
@@ -35,46 +36,6 @@ stepNumbers bytes violation byte control =
     (stepOf (readerIn bytes) (resultOf violation byte control))
 
 -- ---- what it says, in numbers
-
-abbrev pub isGiven : {A : Type 0} → Option A → Bool
-isGiven none = false
-isGiven (some x) = true
-
-abbrev pub channelOf : Option Start → Option ℕ
-channelOf none = none
-channelOf (some s) = some (s .channel)
-
-abbrev pub segmentOf : Option Start → Option ℕ
-segmentOf none = none
-segmentOf (some s) = s .segment
-
-abbrev pub markIn : Option Bool → Option ℕ
-markIn none = none
-markIn (some bad) = some (markNumber bad)
-
-abbrev pub nackIn : Option Reply → Option ℕ
-nackIn none = none
-nackIn (some l) = some (markNumber (l .nack))
-
-abbrev pub numberIn : Option Reply → Option ℕ
-numberIn none = none
-numberIn (some l) = some (l .number)
-
--- 0 nothing, 1 violation, 2 start of a data packet, 3 start of a priority packet, 4 byte, 5 end, 6 LMP
-abbrev pub eventIn : Said → ℕ
-eventIn s =
-    cond (isGiven (s .violation)) 1
-    (cond (isGiven (segmentOf (s .start))) 3
-    (cond (isGiven (s .start)) 2 (cond (isGiven (s .byte)) 4 (cond (isGiven (s .end)) 5 (cond (isGiven (s .lmp)) 6 0)))))
-
--- the violation's number; the channel; the byte; the bad mark; the NACK mark; else 0
-abbrev pub valueIn : Said → ℕ
-valueIn s =
-    orOld (s .violation) (orOld (channelOf (s .start)) (orOld (s .byte) (orOld (markIn (s .end)) (orOld (nackIn (s .lmp)) 0))))
-
--- the segment number of a priority packet or an LMP; else 0
-abbrev pub segmentIn : Said → ℕ
-segmentIn s = orOld (segmentOf (s .start)) (orOld (numberIn (s .lmp)) 0)
 
 abbrev pub numberTold : ℕ → ℕ → ℕ → Told
 numberTold event value number = record { refusal = 0; event = event; value = value; number = number }

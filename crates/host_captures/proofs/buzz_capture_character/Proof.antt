@@ -16,7 +16,8 @@ enum-known-answer : tie.Need-enum-known-answer
 enum-known-answer c = search needs
 
 cast-character : tie.Need-cast-character
-cast-character c = let h = sym (ap says (c .before .answer .given .1)) ∙ c .before .before .before .character-at .ensures in record { fits = omega (arith, character-answered _ _ _ h) }
+cast-character c = let h = sym (ap says (c .before .answer .given .1))
+    ∙ c .before .before .before .character-at .ensures in record { fits = omega (arith, character-answered _ _ _ h) }
 
 enum-known-answer-2 : tie.Need-enum-known-answer-2
 enum-known-answer-2 c = search needs

@@ -44,28 +44,32 @@ returns : tie.Need-returns
 returns c =
     let a = c .before .before .before .before .before .before .before .args in
     let old : Reads = record { disparity = a .disparity .now; violation = a .violation .now; byte = a .byte .now; control = a .control .now } in
-    let h = sym (ap readingSays (c .before .before .before .answer .given .1)) ∙ c .before .before .before .before .before .read .ensures ∙ ap (reading (a .character)) (same (a .disparity .now) (c .before .before .before .before .before .before .read-arg .given)) in
+    let h = sym (ap readingSays (c .before .before .before .answer .given .1)) ∙ c .before .before .before .before .before .read .ensures
+    ∙ ap (reading (a .character)) (same (a .disparity .now) (c .before .before .before .before .before .before .read-arg .given)) in
     rw (read-clean _ old _ _ h) (refl, same _ (c .before .before .known-told .given .1 .0 .1), refl, refl, c .mark-number .ensures)
 
 returns-2 : tie.Need-returns-2
 returns-2 c =
     let a = c .before .before .before .before .before .before .before .args in
     let old : Reads = record { disparity = a .disparity .now; violation = a .violation .now; byte = a .byte .now; control = a .control .now } in
-    let h = sym (ap readingSays (c .before .before .before .answer2 .given .1)) ∙ c .before .before .before .before .before .read .ensures ∙ ap (reading (a .character)) (same (a .disparity .now) (c .before .before .before .before .before .before .read-arg .given)) in
+    let h = sym (ap readingSays (c .before .before .before .answer2 .given .1)) ∙ c .before .before .before .before .before .read .ensures
+    ∙ ap (reading (a .character)) (same (a .disparity .now) (c .before .before .before .before .before .before .read-arg .given)) in
     rw (read-wrong _ old _ _ h) (refl, same _ (c .before .before .known-told2 .given .1 .0 .1), refl, refl, c .mark-number2 .ensures)
 
 returns-3 : tie.Need-returns-3
 returns-3 c =
     let a = c .before .before .before .before .before .args in
     let old : Reads = record { disparity = a .disparity .now; violation = a .violation .now; byte = a .byte .now; control = a .control .now } in
-    let h = sym (ap readingSays (c .before .answer3 .given .1)) ∙ c .before .before .before .read .ensures ∙ ap (reading (a .character)) (same (a .disparity .now) (c .before .before .before .before .read-arg .given)) in
+    let h = sym (ap readingSays (c .before .answer3 .given .1)) ∙ c .before .before .before .read .ensures
+    ∙ ap (reading (a .character)) (same (a .disparity .now) (c .before .before .before .before .read-arg .given)) in
     rw (read-invalid _ old _ h) (refl, same _ (c .known-told3 .given .0 .1), refl, refl, refl)
 
 returns-4 : tie.Need-returns-4
 returns-4 c =
     let a = c .before .before .before .before .before .args in
     let old : Reads = record { disparity = a .disparity .now; violation = a .violation .now; byte = a .byte .now; control = a .control .now } in
-    let h = sym (ap readingSays (c .before .answer4 .given .1)) ∙ c .before .before .before .read .ensures ∙ ap (reading (a .character)) (same (a .disparity .now) (c .before .before .before .before .read-arg .given)) in
+    let h = sym (ap readingSays (c .before .answer4 .given .1)) ∙ c .before .before .before .read .ensures
+    ∙ ap (reading (a .character)) (same (a .disparity .now) (c .before .before .before .before .read-arg .given)) in
     rw (read-refused _ old _ h) (refl, refl, refl, refl, refl)
 
 pub buzz-read-character-spec : {M : Type 1} → statement M

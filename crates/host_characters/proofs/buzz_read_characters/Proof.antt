@@ -32,7 +32,8 @@ returns c =
     let a = c .before .before .before .before .before .before .before .before .before .before .args in
     let old : ReadsRun = record { disparity = a .disparity .now; results = a .results .now } in
     let d = same (a .disparity .now) (c .before .before .before .before .before .before .before .read-run-arg .given) in
-    let h = sym (ap runSays (c .before .answer .given .1)) ∙ c .before .before .before .before .before .read-run .ensures .0 ∙ ap (λ (d : ℤ). runReading (a .characters .now) d (length (a .results .now))) d in
+    let h = sym (ap runSays (c .before .answer .given .1)) ∙ c .before .before .before .before .before .read-run .ensures .0
+    ∙ ap (λ (d : ℤ). runReading (a .characters .now) d (length (a .results .now))) d in
     let results = c .before .before .before .before .before .read-run .ensures .1 ∙ ap (λ (d : ℤ). runOutput (a .characters .now) d (a .results .now)) d in
     rw (run-done _ old _ h) (refl, same _ (c .known-told .given .0 .1), results)
 
@@ -44,7 +45,8 @@ returns-2 c =
     let a = c .before .before .before .before .before .before .before .before .before .before .args in
     let old : ReadsRun = record { disparity = a .disparity .now; results = a .results .now } in
     let d = same (a .disparity .now) (c .before .before .before .before .before .before .before .read-run-arg .given) in
-    let h = sym (ap runSays (c .before .answer2 .given .1)) ∙ c .before .before .before .before .before .read-run .ensures .0 ∙ ap (λ (d : ℤ). runReading (a .characters .now) d (length (a .results .now))) d in
+    let h = sym (ap runSays (c .before .answer2 .given .1)) ∙ c .before .before .before .before .before .read-run .ensures .0
+    ∙ ap (λ (d : ℤ). runReading (a .characters .now) d (length (a .results .now))) d in
     let results = c .before .before .before .before .before .read-run .ensures .1 ∙ ap (λ (d : ℤ). runOutput (a .characters .now) d (a .results .now)) d in
     rw (run-refused _ old _ h) (refl, refl, results)
 

@@ -43,7 +43,8 @@ returns-2 : tie.Need-returns-2
 returns-2 c =
     let a = c .before .before .before .before .before .before .args in
     let old : Writes = record { disparity = a .disparity .now; character = a .character .now } in
-    let e = sym (ap writingSays (c .before .answer .given .1)) ∙ c .before .before .before .write .ensures ∙ ap (writing (symbolOf (a .byte) (a .control))) (same (a .disparity .now) (c .before .before .before .before .write-arg .given)) in
+    let e = sym (ap writingSays (c .before .answer .given .1)) ∙ c .before .before .before .write .ensures
+    ∙ ap (writing (symbolOf (a .byte) (a .control))) (same (a .disparity .now) (c .before .before .before .before .write-arg .given)) in
     let h = e ∙ sym (byte-fits (a .byte) (a .control) (a .disparity .now) (c .before .before .before .before .before .if1 .left)) in
     rw (write-done _ _ old _ _ h) (refl, same _ (c .known-told .given .1 .0 .1), refl)
 
@@ -51,7 +52,8 @@ returns-3 : tie.Need-returns-3
 returns-3 c =
     let a = c .before .before .before .before .before .before .args in
     let old : Writes = record { disparity = a .disparity .now; character = a .character .now } in
-    let e = sym (ap writingSays (c .before .answer2 .given .1)) ∙ c .before .before .before .write .ensures ∙ ap (writing (symbolOf (a .byte) (a .control))) (same (a .disparity .now) (c .before .before .before .before .write-arg .given)) in
+    let e = sym (ap writingSays (c .before .answer2 .given .1)) ∙ c .before .before .before .write .ensures
+    ∙ ap (writing (symbolOf (a .byte) (a .control))) (same (a .disparity .now) (c .before .before .before .before .write-arg .given)) in
     let h = e ∙ sym (byte-fits (a .byte) (a .control) (a .disparity .now) (c .before .before .before .before .before .if1 .left)) in
     rw (write-refused _ _ old _ h) (refl, refl, refl)
 

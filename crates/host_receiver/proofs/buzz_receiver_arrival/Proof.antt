@@ -26,11 +26,33 @@ same-length c = search needs
 returns : tie.Need-returns
 returns c =
     let a = c .before .before .before .before .before .before .before .before .before .before .before .args in
-    let old : Arrives = record { receiver = a .receiver .now; output = a .output .now; delivered = a .delivered .now; channel = a .delivered-channel .now; bad = a .delivered-bad .now; size = a .delivered-length .now; nack = a .nack .now; reply = a .reply .now } in
+    let old : Arrives = record {
+      receiver = a .receiver .now;
+      output = a .output .now;
+      delivered = a .delivered .now;
+      channel = a .delivered-channel .now;
+      bad = a .delivered-bad .now;
+      size = a .delivered-length .now;
+      nack = a .nack .now;
+      reply = a .reply .now;
+    } in
     let given = c .before .before .before .before .before .before .before .receiver-in .ensures in
-    let h = c .before .before .before .before .before .arrival .ensures .0 ∙ ap (λ (s : Receiver). arrivalOf s (a .number) (a .channel) (markOf (a .bad)) (length (a .bytes .now)) (markOf (a .room)) (length (a .output .now))) given in
-    let output = c .before .before .before .before .before .arrival .ensures .1 ∙ ap (λ (s : Receiver). arrivalOutput s (a .number) (a .channel) (a .bytes .now) (markOf (a .room)) (a .output .now)) given in
-    rw (arrival-refused (a .number) (a .channel) (a .bad) (a .bytes .now) (a .room) old _ h (c .before .if1 .taken)) (refl, refl, output, refl, refl, refl, refl, refl, refl)
+    let h = c .before .before .before .before .before .arrival .ensures .0
+    ∙ ap (λ (s : Receiver). arrivalOf s (a .number) (a .channel) (markOf (a .bad)) (length (a .bytes .now)) (markOf (a .room))
+    (length (a .output .now))) given in
+    let output = c .before .before .before .before .before .arrival .ensures .1
+    ∙ ap (λ (s : Receiver). arrivalOutput s (a .number) (a .channel) (a .bytes .now) (markOf (a .room)) (a .output .now)) given in
+    rw (arrival-refused (a .number) (a .channel) (a .bad) (a .bytes .now) (a .room) old _ h (c .before .if1 .taken)) (
+      refl,
+      refl,
+      output,
+      refl,
+      refl,
+      refl,
+      refl,
+      refl,
+      refl,
+    )
 
 receiver-bytes-requires : tie.Need-receiver-bytes-requires
 receiver-bytes-requires c κs = search needs
@@ -58,14 +80,36 @@ same-length-2 c = search needs
 
 returns-2 : tie.Need-returns-2
 returns-2 c =
-    let a = c .before .before .before .before .before .before .before .before .before .before .before .before .before .before .before .before .before .before .args in
-    let old : Arrives = record { receiver = a .receiver .now; output = a .output .now; delivered = a .delivered .now; channel = a .delivered-channel .now; bad = a .delivered-bad .now; size = a .delivered-length .now; nack = a .nack .now; reply = a .reply .now } in
+    let a = c .before .before .before .before .before .before .before .before .before .before .before .before .before .before .before .before .before
+    .before .args in
+    let old : Arrives = record {
+      receiver = a .receiver .now;
+      output = a .output .now;
+      delivered = a .delivered .now;
+      channel = a .delivered-channel .now;
+      bad = a .delivered-bad .now;
+      size = a .delivered-length .now;
+      nack = a .nack .now;
+      reply = a .reply .now;
+    } in
     let given = c .before .before .before .before .before .before .before .before .before .before .before .before .before .before .receiver-in .ensures in
-    let h = c .before .before .before .before .before .before .before .before .before .before .before .before .arrival .ensures .0 ∙ ap (λ (s : Receiver). arrivalOf s (a .number) (a .channel) (markOf (a .bad)) (length (a .bytes .now)) (markOf (a .room)) (length (a .output .now))) given in
-    let output = c .before .before .before .before .before .before .before .before .before .before .before .before .arrival .ensures .1 ∙ ap (λ (s : Receiver). arrivalOutput s (a .number) (a .channel) (a .bytes .now) (markOf (a .room)) (a .output .now)) given in
+    let h = c .before .before .before .before .before .before .before .before .before .before .before .before .arrival .ensures .0
+    ∙ ap (λ (s : Receiver). arrivalOf s (a .number) (a .channel) (markOf (a .bad)) (length (a .bytes .now)) (markOf (a .room))
+    (length (a .output .now))) given in
+    let output = c .before .before .before .before .before .before .before .before .before .before .before .before .arrival .ensures .1
+    ∙ ap (λ (s : Receiver). arrivalOutput s (a .number) (a .channel) (a .bytes .now) (markOf (a .room)) (a .output .now)) given in
     let done = c .before .before .before .before .before .before .before .before .if1 .left in
-    rw (arrival-done (a .number) (a .channel) (a .bad) (a .bytes .now) (a .room) old _ h done)
-    (sym done, c .before .before .before .before .before .before .receiver-bytes .ensures, output, c .before .before .before .before .before .mark-number .ensures, refl, c .before .before .before .mark-number2 .ensures, refl, c .before .mark-number3 .ensures, refl)
+    rw (arrival-done (a .number) (a .channel) (a .bad) (a .bytes .now) (a .room) old _ h done) (
+      sym done,
+      c .before .before .before .before .before .before .receiver-bytes .ensures,
+      output,
+      c .before .before .before .before .before .mark-number .ensures,
+      refl,
+      c .before .before .before .mark-number2 .ensures,
+      refl,
+      c .before .mark-number3 .ensures,
+      refl,
+    )
 
 pub buzz-receiver-arrival-spec : {M : Type 1} → statement M
 buzz-receiver-arrival-spec =

@@ -35,10 +35,16 @@ cast-reply c = search needs
 
 returns-2 : tie.Need-returns-2
 returns-2 c =
-    let h = c .before .before .before .before .before .before .damaged-arrival .ensures ∙ ap damagedArrivalOf (c .before .before .before .before .before .before .before .receiver-in .ensures) in
+    let h = c .before .before .before .before .before .before .damaged-arrival .ensures
+    ∙ ap damagedArrivalOf (c .before .before .before .before .before .before .before .receiver-in .ensures) in
     let a = c .before .before .before .before .before .before .before .before .before .args in
     let old : ArrivesDamaged = record { receiver = a .receiver .now; nack = a .nack .now; reply = a .reply .now } in
-    rw (damaged-done old _ h (c .before .before .before .before .if1 .left)) (sym (c .before .before .before .before .if1 .left), c .before .before .receiver-bytes .ensures, c .before .mark-number .ensures, refl)
+    rw (damaged-done old _ h (c .before .before .before .before .if1 .left)) (
+      sym (c .before .before .before .before .if1 .left),
+      c .before .before .receiver-bytes .ensures,
+      c .before .mark-number .ensures,
+      refl,
+    )
 
 pub buzz-receiver-damaged-arrival-spec : {M : Type 1} → statement M
 buzz-receiver-damaged-arrival-spec =

@@ -29,7 +29,13 @@ returns-2 c =
     let old : Steps = record { reader = a .reader .now; event = a .event .now; value = a .value .now; number = a .number .now } in
     let h = c .before .before .before .before .before .step .ensures in
     let done = c .before .before .if1 .left in
-    rw (step-done (a .violation) (a .byte) (a .control) old _ h _ (c .before .before .before .before .told .ensures) done) (sym done, c .reader-bytes .ensures, refl, refl, refl)
+    rw (step-done (a .violation) (a .byte) (a .control) old _ h _ (c .before .before .before .before .told .ensures) done) (
+      sym done,
+      c .reader-bytes .ensures,
+      refl,
+      refl,
+      refl,
+    )
 
 pub buzz-reader-step-spec : {M : Type 1} → statement M
 buzz-reader-step-spec =

@@ -32,7 +32,8 @@ returns c =
     let old : WritesPacket = record { disparity = a .disparity .now; characters = a .characters .now; count = a .count .now } in
     let packet = retry (markOf (a .nack)) (a .number) in
     let d = same (a .disparity .now) (c .before .before .before .before .before .before .before .write-lmp-arg .given) in
-    let h = sym (ap writtenSays (c .before .answer .given .1)) ∙ c .before .before .before .before .before .write-lmp .ensures .0 ∙ ap (λ (d : ℤ). packetWriting 0 packet d (a .characters .now)) d in
+    let h = sym (ap writtenSays (c .before .answer .given .1)) ∙ c .before .before .before .before .before .write-lmp .ensures .0
+    ∙ ap (λ (d : ℤ). packetWriting 0 packet d (a .characters .now)) d in
     let characters = c .before .before .before .before .before .write-lmp .ensures .1 ∙ ap (λ (d : ℤ). packetOutput 0 packet d (a .characters .now)) d in
     rw (packet-done 0 packet old _ _ h) (refl, same _ (c .known-told .given .1 .0 .1), characters, refl)
 
@@ -45,7 +46,8 @@ returns-2 c =
     let old : WritesPacket = record { disparity = a .disparity .now; characters = a .characters .now; count = a .count .now } in
     let packet = retry (markOf (a .nack)) (a .number) in
     let d = same (a .disparity .now) (c .before .before .before .before .before .before .before .write-lmp-arg .given) in
-    let h = sym (ap writtenSays (c .before .answer2 .given .1)) ∙ c .before .before .before .before .before .write-lmp .ensures .0 ∙ ap (λ (d : ℤ). packetWriting 0 packet d (a .characters .now)) d in
+    let h = sym (ap writtenSays (c .before .answer2 .given .1)) ∙ c .before .before .before .before .before .write-lmp .ensures .0
+    ∙ ap (λ (d : ℤ). packetWriting 0 packet d (a .characters .now)) d in
     let characters = c .before .before .before .before .before .write-lmp .ensures .1 ∙ ap (λ (d : ℤ). packetOutput 0 packet d (a .characters .now)) d in
     rw (packet-refused 0 packet old _ h) (refl, refl, characters, refl)
 

@@ -32,8 +32,10 @@ returns c =
     let old : WritesPacket = record { disparity = a .disparity .now; characters = a .characters .now; count = a .count .now } in
     let packet = inPriority (a .channel) (a .segment) (a .bytes .now) (markOf (a .bad)) in
     let d = same (a .disparity .now) (c .before .before .before .before .before .before .before .write-priority-arg .given) in
-    let h = sym (ap writtenSays (c .before .answer .given .1)) ∙ c .before .before .before .before .before .write-priority .ensures .0 ∙ ap (λ (d : ℤ). packetWriting (a .size) packet d (a .characters .now)) d in
-    let characters = c .before .before .before .before .before .write-priority .ensures .1 ∙ ap (λ (d : ℤ). packetOutput (a .size) packet d (a .characters .now)) d in
+    let h = sym (ap writtenSays (c .before .answer .given .1)) ∙ c .before .before .before .before .before .write-priority .ensures .0
+    ∙ ap (λ (d : ℤ). packetWriting (a .size) packet d (a .characters .now)) d in
+    let characters = c .before .before .before .before .before .write-priority .ensures .1
+    ∙ ap (λ (d : ℤ). packetOutput (a .size) packet d (a .characters .now)) d in
     rw (packet-done (a .size) packet old _ _ h) (refl, same _ (c .known-told .given .1 .0 .1), characters, refl)
 
 same-length-2 : tie.Need-same-length-2
@@ -45,8 +47,10 @@ returns-2 c =
     let old : WritesPacket = record { disparity = a .disparity .now; characters = a .characters .now; count = a .count .now } in
     let packet = inPriority (a .channel) (a .segment) (a .bytes .now) (markOf (a .bad)) in
     let d = same (a .disparity .now) (c .before .before .before .before .before .before .before .write-priority-arg .given) in
-    let h = sym (ap writtenSays (c .before .answer2 .given .1)) ∙ c .before .before .before .before .before .write-priority .ensures .0 ∙ ap (λ (d : ℤ). packetWriting (a .size) packet d (a .characters .now)) d in
-    let characters = c .before .before .before .before .before .write-priority .ensures .1 ∙ ap (λ (d : ℤ). packetOutput (a .size) packet d (a .characters .now)) d in
+    let h = sym (ap writtenSays (c .before .answer2 .given .1)) ∙ c .before .before .before .before .before .write-priority .ensures .0
+    ∙ ap (λ (d : ℤ). packetWriting (a .size) packet d (a .characters .now)) d in
+    let characters = c .before .before .before .before .before .write-priority .ensures .1
+    ∙ ap (λ (d : ℤ). packetOutput (a .size) packet d (a .characters .now)) d in
     rw (packet-refused (a .size) packet old _ h) (refl, refl, characters, refl)
 
 pub buzz-write-priority-spec : {M : Type 1} → statement M

@@ -28,8 +28,10 @@ returns c =
     let a = c .before .before .before .before .before .before .before .before .before .before .before .args in
     let old : Offers = record { sender = a .sender .now; buffers = a .buffers .now; number = a .number .now } in
     let given = c .before .before .before .before .before .before .before .sender-in .ensures in
-    let h = c .before .before .before .before .before .offer .ensures .0 ∙ ap (λ (s : Sender). offerOf s (length (a .buffers .now)) (a .channel) (markOf (a .bad)) (length (a .bytes .now))) given in
-    let buffers = c .before .before .before .before .before .offer .ensures .1 ∙ ap (λ (s : Sender). offerBuffers s (a .buffers .now) (a .channel) (a .bytes .now)) given in
+    let h = c .before .before .before .before .before .offer .ensures .0
+    ∙ ap (λ (s : Sender). offerOf s (length (a .buffers .now)) (a .channel) (markOf (a .bad)) (length (a .bytes .now))) given in
+    let buffers = c .before .before .before .before .before .offer .ensures .1
+    ∙ ap (λ (s : Sender). offerBuffers s (a .buffers .now) (a .channel) (a .bytes .now)) given in
     rw (offer-refused (a .channel) (a .bad) (a .bytes .now) old _ h (c .before .if1 .taken)) (refl, refl, buffers, refl)
 
 sender-bytes-requires : tie.Need-sender-bytes-requires
@@ -46,8 +48,10 @@ returns-2 c =
     let a = c .before .before .before .before .before .before .before .before .before .before .before .before .before .args in
     let old : Offers = record { sender = a .sender .now; buffers = a .buffers .now; number = a .number .now } in
     let given = c .before .before .before .before .before .before .before .before .before .sender-in .ensures in
-    let h = c .before .before .before .before .before .before .before .offer .ensures .0 ∙ ap (λ (s : Sender). offerOf s (length (a .buffers .now)) (a .channel) (markOf (a .bad)) (length (a .bytes .now))) given in
-    let buffers = c .before .before .before .before .before .before .before .offer .ensures .1 ∙ ap (λ (s : Sender). offerBuffers s (a .buffers .now) (a .channel) (a .bytes .now)) given in
+    let h = c .before .before .before .before .before .before .before .offer .ensures .0
+    ∙ ap (λ (s : Sender). offerOf s (length (a .buffers .now)) (a .channel) (markOf (a .bad)) (length (a .bytes .now))) given in
+    let buffers = c .before .before .before .before .before .before .before .offer .ensures .1
+    ∙ ap (λ (s : Sender). offerBuffers s (a .buffers .now) (a .channel) (a .bytes .now)) given in
     let done = c .before .before .before .if1 .left in
     rw (offer-done (a .channel) (a .bad) (a .bytes .now) old _ h done) (sym done, c .before .sender-bytes .ensures, buffers, refl)
 

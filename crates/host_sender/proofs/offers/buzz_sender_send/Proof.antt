@@ -25,7 +25,15 @@ same-length c = search needs
 returns : tie.Need-returns
 returns c =
     let a = c .before .before .before .before .before .before .before .before .before .before .before .args in
-    let old : Sends = record { sender = a .sender .now; output = a .output .now; sent = a .sent .now; number = a .number .now; channel = a .channel .now; bad = a .bad .now; size = a .bytes .now } in
+    let old : Sends = record {
+      sender = a .sender .now;
+      output = a .output .now;
+      sent = a .sent .now;
+      number = a .number .now;
+      channel = a .channel .now;
+      bad = a .bad .now;
+      size = a .bytes .now;
+    } in
     let given = c .before .before .before .before .before .before .before .sender-in .ensures in
     let h = c .before .before .before .before .before .send .ensures .0 ∙ ap (λ (s : Sender). sendOf s (length (a .buffers .now)) (length (a .output .now))) given in
     let output = c .before .before .before .before .before .send .ensures .1 ∙ ap (λ (s : Sender). sendOutput s (a .buffers .now) (a .output .now)) given in
@@ -55,13 +63,31 @@ same-length-2 c = search needs
 returns-2 : tie.Need-returns-2
 returns-2 c =
     let a = c .before .before .before .before .before .before .before .before .before .before .before .before .before .before .before .before .before .args in
-    let old : Sends = record { sender = a .sender .now; output = a .output .now; sent = a .sent .now; number = a .number .now; channel = a .channel .now; bad = a .bad .now; size = a .bytes .now } in
+    let old : Sends = record {
+      sender = a .sender .now;
+      output = a .output .now;
+      sent = a .sent .now;
+      number = a .number .now;
+      channel = a .channel .now;
+      bad = a .bad .now;
+      size = a .bytes .now;
+    } in
     let given = c .before .before .before .before .before .before .before .before .before .before .before .before .before .sender-in .ensures in
-    let h = c .before .before .before .before .before .before .before .before .before .before .before .send .ensures .0 ∙ ap (λ (s : Sender). sendOf s (length (a .buffers .now)) (length (a .output .now))) given in
-    let output = c .before .before .before .before .before .before .before .before .before .before .before .send .ensures .1 ∙ ap (λ (s : Sender). sendOutput s (a .buffers .now) (a .output .now)) given in
+    let h = c .before .before .before .before .before .before .before .before .before .before .before .send .ensures .0
+    ∙ ap (λ (s : Sender). sendOf s (length (a .buffers .now)) (length (a .output .now))) given in
+    let output = c .before .before .before .before .before .before .before .before .before .before .before .send .ensures .1
+    ∙ ap (λ (s : Sender). sendOutput s (a .buffers .now) (a .output .now)) given in
     let done = c .before .before .before .before .before .before .before .if1 .left in
-    rw (send-done (a .buffers .now) old _ h done)
-    (sym done, c .before .before .before .before .before .sender-bytes .ensures, output, c .before .before .before .before .mark-number .ensures, refl, refl, c .before .mark-number2 .ensures, refl)
+    rw (send-done (a .buffers .now) old _ h done) (
+      sym done,
+      c .before .before .before .before .before .sender-bytes .ensures,
+      output,
+      c .before .before .before .before .mark-number .ensures,
+      refl,
+      refl,
+      c .before .mark-number2 .ensures,
+      refl,
+    )
 
 pub buzz-sender-send-spec : {M : Type 1} → statement M
 buzz-sender-send-spec =

@@ -29,7 +29,8 @@ sender-bytes-requires c κs = search needs
 returns-2 : tie.Need-returns-2
 returns-2 c =
     let a = c .before .before .before .before .before .before .before .args in
-    let h = c .before .before .before .before .damaged-reply .ensures ∙ ap (λ (s : Sender). damagedReplyOf s) (c .before .before .before .before .before .sender-in .ensures) in
+    let h = c .before .before .before .before .damaged-reply .ensures
+    ∙ ap (λ (s : Sender). damagedReplyOf s) (c .before .before .before .before .before .sender-in .ensures) in
     rw (damaged-done (a .sender .now) _ h (c .before .before .if1 .left)) (sym (c .before .before .if1 .left), c .sender-bytes .ensures)
 
 pub buzz-sender-damaged-reply-spec : {M : Type 1} → statement M

@@ -21,7 +21,8 @@ cast-result c = search needs
 returns : tie.Need-returns
 returns c =
     let a = c .before .before .before .before .before .before .args in
-    let h = c .before .before .before .reply .ensures ∙ ap (λ (s : Sender). replyOf s (markOf (a .nack)) (a .number)) (c .before .before .before .before .sender-in .ensures) in
+    let h = c .before .before .before .reply .ensures
+    ∙ ap (λ (s : Sender). replyOf s (markOf (a .nack)) (a .number)) (c .before .before .before .before .sender-in .ensures) in
     rw (reply-refused (a .nack) (a .number) (a .sender .now) _ h (c .before .if1 .taken)) (refl, refl)
 
 sender-bytes-requires : tie.Need-sender-bytes-requires
@@ -30,7 +31,8 @@ sender-bytes-requires c κs = search needs
 returns-2 : tie.Need-returns-2
 returns-2 c =
     let a = c .before .before .before .before .before .before .before .args in
-    let h = c .before .before .before .before .reply .ensures ∙ ap (λ (s : Sender). replyOf s (markOf (a .nack)) (a .number)) (c .before .before .before .before .before .sender-in .ensures) in
+    let h = c .before .before .before .before .reply .ensures
+    ∙ ap (λ (s : Sender). replyOf s (markOf (a .nack)) (a .number)) (c .before .before .before .before .before .sender-in .ensures) in
     rw (reply-done (a .nack) (a .number) (a .sender .now) _ h (c .before .before .if1 .left)) (sym (c .before .before .if1 .left), c .sender-bytes .ensures)
 
 pub buzz-sender-reply-spec : {M : Type 1} → statement M

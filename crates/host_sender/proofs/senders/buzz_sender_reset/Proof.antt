@@ -20,7 +20,8 @@ cast-result c = search needs
 returns : tie.Need-returns
 returns c =
     let a = c .before .before .before .before .before .before .args in
-    let h = c .before .before .before .reset .ensures ∙ ap (λ (s : Sender). resetOf s (a .columns) (a .size)) (c .before .before .before .before .sender-in .ensures) in
+    let h = c .before .before .before .reset .ensures
+    ∙ ap (λ (s : Sender). resetOf s (a .columns) (a .size)) (c .before .before .before .before .sender-in .ensures) in
     rw (reset-refused (a .columns) (a .size) (a .sender .now) _ h (c .before .if1 .taken)) (refl, refl)
 
 sender-bytes-requires : tie.Need-sender-bytes-requires
@@ -29,7 +30,8 @@ sender-bytes-requires c κs = search needs
 returns-2 : tie.Need-returns-2
 returns-2 c =
     let a = c .before .before .before .before .before .before .before .args in
-    let h = c .before .before .before .before .reset .ensures ∙ ap (λ (s : Sender). resetOf s (a .columns) (a .size)) (c .before .before .before .before .before .sender-in .ensures) in
+    let h = c .before .before .before .before .reset .ensures
+    ∙ ap (λ (s : Sender). resetOf s (a .columns) (a .size)) (c .before .before .before .before .before .sender-in .ensures) in
     rw (reset-done (a .columns) (a .size) (a .sender .now) _ h (c .before .before .if1 .left)) (sym (c .before .before .if1 .left), c .sender-bytes .ensures)
 
 pub buzz-sender-reset-spec : {M : Type 1} → statement M

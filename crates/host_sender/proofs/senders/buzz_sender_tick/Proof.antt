@@ -35,7 +35,11 @@ returns-2 c =
     let a = c .before .before .before .before .before .before .before .before .args in
     let old : Ticks = record { sender = a .sender .now; fell = a .fell .now } in
     let h = c .before .before .before .before .before .tick .ensures ∙ ap tickOf (c .before .before .before .before .before .before .sender-in .ensures) in
-    rw (tick-done old _ h (c .before .before .before .if1 .left)) (sym (c .before .before .before .if1 .left), c .before .sender-bytes .ensures, c .mark-number .ensures)
+    rw (tick-done old _ h (c .before .before .before .if1 .left)) (
+      sym (c .before .before .before .if1 .left),
+      c .before .sender-bytes .ensures,
+      c .mark-number .ensures,
+    )
 
 pub buzz-sender-tick-spec : {M : Type 1} → statement M
 buzz-sender-tick-spec =
