@@ -71,7 +71,7 @@ static void answer(uint32_t nack, uint32_t number) {
 
 /* The far end hears a packet; returns how many segments it delivered. */
 static int hear_packet(const uint16_t *run, size_t count) {
-  uint32_t value, number, channel = 0, segment = 0, delivered, nack, reply;
+  uint32_t value, number, channel = 0, segment = 0, delivered, its_channel, its_mark, its_length, nack, reply;
   uint8_t bytes[S], output[S];
   size_t length = 0;
   int n = 0;
@@ -84,8 +84,9 @@ static int hear_packet(const uint16_t *run, size_t count) {
       if (length < S) bytes[length++] = (uint8_t)value;
       break;
     case BUZZ_END:
-      must(buzz_receiver_arrival(&receiver, segment, channel, value, bytes, length, 1, output, S, &delivered, &nack, &reply), "arrival");
-      if (delivered) printf("%.*s\n", (int)length, (const char *)output), n++;
+      must(buzz_receiver_arrival(&receiver, segment, channel, value, bytes, length, 1, output, S, &delivered, &its_channel, &its_mark, &its_length,
+                                 &nack, &reply), "arrival");
+      if (delivered) printf("%.*s\n", (int)its_length, (const char *)output), n++;
       answer(nack, reply);
       break;
     case BUZZ_VIOLATION:

@@ -196,7 +196,7 @@ void same_state(int kind, const void *bytes, size_t size, const void *state, siz
 }
 
 int main(int argc, char **argv) {
-  uint64_t steps = argc > 1 ? strtoull(argv[1], NULL, 10) : 5000000;
+  uint64_t steps = argc > 1 ? strtoull(argv[1], NULL, 10) : 4000000;
   seed = argc > 2 ? strtoull(argv[2], NULL, 10) : 1;
   chance_state = (seed + 1) * 0x9E3779B97F4A7C15u | 1;
   for (int i = 0; i < 16; i++) (void)any32();

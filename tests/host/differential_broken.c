@@ -135,7 +135,7 @@ void identify_sender(const uint8_t *bytes, ref_sender *state) {
 void identify_receiver(const uint8_t *bytes, ref_receiver *state) {
   static const uint8_t segment[1025];
   buzz_receiver r, copy;
-  uint32_t delivered, nack, reply;
+  uint32_t delivered, channel, bad, length, nack, reply;
   begin("identifying a receiver");
   (void)lend_state(bytes, BUZZ_RECEIVER_BYTES);
   memcpy(r.bytes, bytes, sizeof r.bytes);
@@ -151,14 +151,16 @@ void identify_receiver(const uint8_t *bytes, ref_receiver *state) {
   if (nack != 1 || state->expected > 15) differs("a strange reply");
   for (uint32_t size = 8; size <= 1024; size *= 2) {
     copy = r;
-    uint32_t fits = buzz_receiver_arrival(&copy, state->expected, 0, 0, segment, size, 0, output, 0, &delivered, &nack, &reply) == 0;
-    uint32_t over = buzz_receiver_arrival(&copy, state->expected, 0, 0, segment, size + 1, 0, output, 0, &delivered, &nack, &reply) == 2;
-    if (fits && over) state->size = size;
+    uint32_t k = state->expected; /* there is no room for it */
+    uint32_t fits = buzz_receiver_arrival(&copy, k, 0, 0, segment, size, 0, output, 0, &delivered, &channel, &bad, &length, &nack, &reply);
+    uint32_t over = buzz_receiver_arrival(&copy, k, 0, 0, segment, size + 1, 0, output, 0, &delivered, &channel, &bad, &length, &nack, &reply);
+    if (fits == 0 && over == 2) state->size = size;
   }
   if (!state->size) differs("no S fits");
   for (uint32_t k = 1; k <= 15; k++) {
     copy = r;
-    if (buzz_receiver_arrival(&copy, (state->expected + 16 - k) % 16, 0, 0, segment, 1, 1, output, 1, &delivered, &nack, &reply) != 0) differs("refused");
+    uint32_t number = (state->expected + 16 - k) % 16;
+    if (buzz_receiver_arrival(&copy, number, 0, 0, segment, 1, 1, output, 1, &delivered, &channel, &bad, &length, &nack, &reply) != 0) differs("refused");
     if (!nack && state->received != k - 1) differs("the last received are not in a row");
     if (!nack) state->received = k;
   }

@@ -170,10 +170,21 @@ static void an_lmp(void) {
   give_back();
 }
 
+static void a_crc(void) {
+  size_t n = one_in(50) ? below(2000) : below(20);
+  fill_payload(n);
+  begin("buzz_crc16");
+  with("length", (int64_t)n);
+  lent *b = lend(payload, n), *check = lend(NULL, 2);
+  judge(buzz_crc16(b->archive, n, check->archive), ref_crc16(b->reference, n, check->reference));
+  give_back();
+}
+
 void writer_step(void) {
-  switch (below(3)) {
+  switch (below(4)) {
   case 0: a_data(); break;
   case 1: a_priority(); break;
+  case 2: a_crc(); break;
   default: an_lmp(); break;
   }
 }

@@ -103,6 +103,44 @@ static void a_step(struct pair *p) {
   give_back();
 }
 
+/* The character of a symbol, at a disparity, right or wrong; of what has none, anything. */
+static uint16_t character_for(struct symbol s, int32_t d) {
+  uint32_t c = below(1024);
+  int32_t at = s.violation == 2 ? -d : d;
+  if (s.violation != 1 && s.control && s.byte == 0xFC) c = at == -1 ? 0x0F8 : 0x307;
+  else if (s.violation != 1) (void)ref_write_character(s.byte, s.control, &at, &c);
+  return (uint16_t)c;
+}
+
+/* A capture whose characters fit the reader, mostly, from where it stands. */
+static void a_capture(struct pair *p) {
+  static uint16_t run[3000];
+  static uint8_t bytes[3752];
+  struct pair ahead = *p;
+  ref_reader old = p->state;
+  int32_t d0 = disparity(), d = d0;
+  size_t n = one_in(400) ? below(3000) : below(40), length = 0;
+  for (size_t i = 0; i < n; i++) {
+    uint32_t v, b, k, e, x, y;
+    run[i] = character_for(next(&ahead), d);
+    if (ref_read_character(run[i], &d, &v, &b, &k) == 0) (void)ref_reader_step(&ahead.state, v, b, k, &e, &x, &y);
+  }
+  (void)ref_pack(run, n, bytes, sizeof bytes, &length);
+  if (length && one_in(20)) bytes[length - 1] ^= (uint8_t)(1 << below(8));
+  if (length && one_in(20)) length--;
+  size_t room = room_for(8 * length / 10);
+  begin("buzz_read_capture");
+  with("due", p->state.due), with("length", (int64_t)length), with("disparity", d0), with("room", (int64_t)room);
+  lent *c = lend(bytes, length), *l = lend_state(p->bytes, BUZZ_READER_BYTES), *dd = lend(&d0, sizeof d0), *e = lend(NULL, 4 * room);
+  lent *count = lend(NULL, sizeof(size_t));
+  judge(buzz_read_capture(c->archive, length, A(buzz_reader, l), A(int32_t, dd), A(uint32_t, e), room, A(size_t, count)),
+        ref_read_capture(c->reference, length, &p->state, R(int32_t, dd), R(uint32_t, e), room, R(size_t, count)));
+  if (memcmp(&old, &p->state, sizeof old) == 0 && memcmp(l->archive, l->before, l->size) != 0) differs("a state changed where nothing happened");
+  memcpy(p->bytes, l->archive, BUZZ_READER_BYTES);
+  if (!p->strange) same_state(0, p->bytes, BUZZ_READER_BYTES, &p->state, sizeof p->state);
+  give_back();
+}
+
 /* An accepted state is left dropping by an invalid character, with some allowed S, and is never refused afterwards; its S, or 0 if it was dropping. */
 static uint32_t accepted(const buzz_reader *strange) {
   buzz_reader copy = *strange, dropping;
@@ -159,7 +197,10 @@ static void broken(const struct pair *p) {
   if (size && told) same_state(0, strange.bytes, BUZZ_READER_BYTES, &strange.state, sizeof strange.state);
   if (whole && (answer || (size && due != CRC_SECOND && due != LMP_CHECK && !identified(&p->state, &strange.state)))) differs("a state is taken for another");
   give_back();
-  for (int i = 0; (answer && i < 4) || (size && i < 200); i++) a_step(&strange);
+  for (int i = 0; (answer && i < 4) || (size && i < 200); i++) {
+    if (one_in(6)) a_capture(&strange);
+    else a_step(&strange);
+  }
 }
 
 void reader_step(void) {
@@ -169,5 +210,6 @@ void reader_step(void) {
   else if (!p->made || one_in(3000)) a_fresh(p);
   else if (one_in(2000)) *p = pairs[below(READERS)]; /* a state may be copied */
   else if (one_in(60)) broken(p);
+  else if (one_in(20)) a_capture(p);
   else a_step(p);
 }

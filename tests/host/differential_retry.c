@@ -203,11 +203,11 @@ static void an_arrival(struct receiving *r) {
   with("size", size), with("expected", old.expected), with("received", old.received), with("number", number), with("channel", channel), with("bad", bad);
   with("length", (int64_t)n), with("room", host), with("output_length", (int64_t)room);
   lent *l = lend_state(r->bytes, BUZZ_RECEIVER_BYTES), *p = lend(payload, n), *o = lend(NULL, room);
-  lent *d = lend(NULL, 4), *k = lend(NULL, 4), *reply = lend(NULL, 4);
-  judge(buzz_receiver_arrival(A(buzz_receiver, l), number, channel, bad, p->archive, n, host, o->archive, room, A(uint32_t, d), A(uint32_t, k),
-                              A(uint32_t, reply)),
-        ref_receiver_arrival(&r->state, number, channel, bad, p->reference, n, host, o->reference, room, R(uint32_t, d), R(uint32_t, k),
-                             R(uint32_t, reply)));
+  lent *d = lend(NULL, 4), *dc = lend(NULL, 4), *db = lend(NULL, 4), *dl = lend(NULL, 4), *k = lend(NULL, 4), *reply = lend(NULL, 4);
+  judge(buzz_receiver_arrival(A(buzz_receiver, l), number, channel, bad, p->archive, n, host, o->archive, room, A(uint32_t, d), A(uint32_t, dc),
+                              A(uint32_t, db), A(uint32_t, dl), A(uint32_t, k), A(uint32_t, reply)),
+        ref_receiver_arrival(&r->state, number, channel, bad, p->reference, n, host, o->reference, room, R(uint32_t, d), R(uint32_t, dc),
+                             R(uint32_t, db), R(uint32_t, dl), R(uint32_t, k), R(uint32_t, reply)));
   receiver_after(r, &old, l);
 }
 

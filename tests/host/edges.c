@@ -15,7 +15,7 @@ static struct lent {
   buzz_sender sender;
   buzz_receiver receiver;
   int32_t disparity;
-  uint32_t a, b, c, d, e;
+  uint32_t a, b, c, d, e, f;
   size_t n;
   uint16_t characters[8];
   uint8_t bytes[8], capture[8], buffers[64];
@@ -40,11 +40,14 @@ static void begin(void) {
 static uint32_t read_run(void *o, size_t n) { return buzz_read_characters(m.characters, 3, &m.disparity, o, n); }
 static uint32_t pack(void *o, size_t n) { return buzz_pack(m.characters, 3, o, n, &m.n); }
 static uint32_t unpack(void *o, size_t n) { return buzz_unpack(m.capture, 3, o, n, &m.n); }
+static uint32_t read_capture(void *o, size_t n) { return buzz_read_capture(m.capture, 3, &m.reader, &m.disparity, o, n, &m.n); }
 static uint32_t write_data(void *o, size_t n) { return buzz_write_data(200, m.bytes, 7, 1, &m.disparity, o, n, &m.n); }
 static uint32_t write_priority(void *o, size_t n) { return buzz_write_priority(8, 3, 12, m.bytes, 8, 0, &m.disparity, o, n, &m.n); }
 static uint32_t write_lmp(void *o, size_t n) { return buzz_write_lmp(1, 9, &m.disparity, o, n, &m.n); }
 static uint32_t send(void *o, size_t n) { return buzz_sender_send(&m.sender, m.buffers, 64, o, n, &m.a, &m.b, &m.c, &m.d, &m.e); }
-static uint32_t arrival(void *o, size_t n) { return buzz_receiver_arrival(&m.receiver, 0, 9, 1, m.bytes, 6, 1, o, n, &m.a, &m.b, &m.c); }
+#define ARRIVE(number, channel, length, room, o, n) \
+  buzz_receiver_arrival(&m.receiver, number, channel, 7, m.bytes, length, room, o, n, &m.a, &m.b, &m.c, &m.d, &m.e, &m.f)
+static uint32_t arrival(void *o, size_t n) { return ARRIVE(0, 9, 6, 1, o, n); }
 
 static int untouched(const uint8_t *bytes, size_t n) {
   for (size_t i = 0; i < n; i++)
@@ -78,6 +81,7 @@ static void outputs(void) {
   lengths("buzz_read_characters", read_run, 2, 3);
   lengths("buzz_pack", pack, 1, 4);
   lengths("buzz_unpack", unpack, 2, 2);
+  lengths("buzz_read_capture", read_capture, 4, 2);
   lengths("buzz_write_data", write_data, 2, 13);
   lengths("buzz_write_priority", write_priority, 2, 14);
   lengths("buzz_write_lmp", write_lmp, 2, 4);
@@ -94,6 +98,7 @@ static void outputs(void) {
 
 static void refused_lines(void) {
   static uint16_t run[32];
+  static uint32_t events[2];
   DISPARITIES(buzz_write_character(0, 0, &m.disparity, &m.a));
   DISPARITIES(buzz_read_character(0xFA, &m.disparity, &m.a, &m.b, &m.c));
   DISPARITIES(buzz_read_characters(m.characters, 3, &m.disparity, run, 0));
@@ -101,6 +106,8 @@ static void refused_lines(void) {
   DISPARITIES(buzz_write_data(0, m.bytes, 0, 0, &m.disparity, run, 0, &m.n));
   DISPARITIES(buzz_write_priority(9, 0, 0, m.bytes, 0, 0, &m.disparity, run, 0, &m.n));
   DISPARITIES(buzz_write_lmp(0, 0, &m.disparity, run, 0, &m.n));
+  DISPARITIES(buzz_read_capture(m.capture, 3, &m.reader, &m.disparity, events, 0, &m.n));
+  DISPARITIES(buzz_read_capture(m.capture, 0, &m.reader, &m.disparity, events, 0, &m.n));
   for (uint32_t byte = 0; byte < 256; byte++) {
     int writable = ((byte & 31) == 28 && byte != 0xFC) || byte == 0xF7 || byte == 0xFB || byte == 0xFD || byte == 0xFE;
     begin();
@@ -116,6 +123,14 @@ static void refused_lines(void) {
   REFUSED(BUZZ_OUT_OF_RANGE, buzz_reader_step(&m.reader, 256, 0, 0, &m.a, &m.b, &m.c));
   REFUSED(BUZZ_OUT_OF_RANGE, buzz_reader_step(&m.reader, 2, 256, 0, &m.a, &m.b, &m.c));
   CHECK(buzz_read_characters(m.characters, 0, &m.disparity, run, 0) == BUZZ_OK && m.disparity == -1);
+  /* a COM, then a data byte where an IDL is due */
+  CHECK(buzz_read_capture(m.capture, 3, &m.reader, &m.disparity, events, 2, &m.n) == BUZZ_OK && m.n == 2 && m.disparity == 1);
+  CHECK(BUZZ_EVENT(events[0]) == BUZZ_NOTHING && BUZZ_EVENT(events[1]) == BUZZ_VIOLATION && BUZZ_VALUE(events[1]) == 4 && BUZZ_NUMBER(events[1]) == 0);
+  memset(&m.reader, 0, sizeof m.reader);
+  REFUSED(BUZZ_OUT_OF_RANGE, buzz_read_capture(m.capture, 3, &m.reader, &m.disparity, events, 0, &m.n));
+  uint8_t check[3] = {0xA5, 0xA5, 0xA5};
+  CHECK(buzz_crc16((const uint8_t *)"123456789", 9, check) == BUZZ_OK && check[0] == 0x6E && check[1] == 0x90 && check[2] == 0xA5);
+  CHECK(buzz_crc16(m.bytes, 0, check) == BUZZ_OK && check[0] == 0 && check[1] == 0);
 }
 
 /* Lengths with remainder 1 by 5, and every length over 65535; 8 comes before a place and before the output. */
@@ -130,6 +145,8 @@ static void refused_captures(void) {
     REFUSED(BUZZ_BAD_CAPTURE, buzz_capture_character(zeros, wrong[i], 99999, &m.a));
     REFUSED(BUZZ_BAD_CAPTURE, buzz_unpack(zeros, wrong[i], run, 0, &m.n));
     REFUSED(BUZZ_BAD_CAPTURE, buzz_unpack(zeros, wrong[i], run, 52440, &m.n));
+    m.disparity = 0;
+    REFUSED(BUZZ_BAD_CAPTURE, buzz_read_capture(zeros, wrong[i], &m.reader, &m.disparity, &m.a, 0, &m.n));
   }
   CHECK(buzz_capture_count(zeros, 65535, &m.n) == BUZZ_OK && m.n == 52428);
   CHECK(buzz_capture_character(zeros, 65535, 52427, &m.a) == BUZZ_OK && m.a == 0);
@@ -170,12 +187,16 @@ static void refused_ends(void) {
     CHECK(allowed || memcmp(&before, &m, sizeof m) == 0);
   }
   begin();
-  REFUSED(BUZZ_OUT_OF_RANGE, buzz_receiver_arrival(&m.receiver, 272, 0, 0, m.bytes, 0, 1, output, 0, &m.a, &m.b, &m.c));
-  REFUSED(BUZZ_OUT_OF_RANGE, buzz_receiver_arrival(&m.receiver, 0, 272, 0, m.bytes, 9, 1, output, 0, &m.a, &m.b, &m.c));
+  CHECK(ARRIVE(0, 9, 6, 1, output, 6) == BUZZ_OK && m.a == 1 && m.b == 9 && m.c == 1 && m.d == 6 && m.e == 0 && m.f == 0);
+  CHECK(ARRIVE(0, 9, 6, 1, output, 6) == BUZZ_OK && m.a == 0 && m.b == 0 && m.c == 0 && m.d == 0 && m.e == 0 && m.f == 0); /* repeated */
+  CHECK(ARRIVE(5, 9, 6, 1, output, 6) == BUZZ_OK && m.a == 0 && m.b == 0 && m.c == 0 && m.d == 0 && m.e == 1 && m.f == 1); /* out of order */
+  begin();
+  REFUSED(BUZZ_OUT_OF_RANGE, ARRIVE(272, 0, 0, 1, output, 0));
+  REFUSED(BUZZ_OUT_OF_RANGE, ARRIVE(0, 272, 9, 1, output, 0));
   /* with the number that is expected and with any other */
   for (uint32_t number = 0; number < 16; number++) {
-    REFUSED(BUZZ_SEGMENT_SIZE, buzz_receiver_arrival(&m.receiver, number, 0, 0, m.bytes, 9, 0, output, 0, &m.a, &m.b, &m.c));
-    REFUSED(BUZZ_NO_BYTES, buzz_receiver_arrival(&m.receiver, number, 0, 0, m.bytes, 0, 0, output, 0, &m.a, &m.b, &m.c));
+    REFUSED(BUZZ_SEGMENT_SIZE, ARRIVE(number, 0, 9, 0, output, 0));
+    REFUSED(BUZZ_NO_BYTES, ARRIVE(number, 0, 0, 0, output, 0));
   }
 }
 

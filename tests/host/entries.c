@@ -13,7 +13,7 @@ static struct lent {
   buzz_sender sender;
   buzz_receiver receiver;
   int32_t disparity;
-  uint32_t a, b, c, d, e;
+  uint32_t a, b, c, d, e, f;
   size_t n;
   uint16_t characters[64];
   uint16_t results[64];
@@ -221,7 +221,7 @@ static void sender(void) {
 }
 
 #define ARRIVE(number, channel, length, room, output_length) \
-  buzz_receiver_arrival(&m.receiver, number, channel, 0, m.bytes, length, room, m.output, output_length, &m.a, &m.b, &m.c)
+  buzz_receiver_arrival(&m.receiver, number, channel, 0, m.bytes, length, room, m.output, output_length, &m.a, &m.d, &m.e, &m.f, &m.b, &m.c)
 
 static void receiver(void) {
   begin();
@@ -242,7 +242,7 @@ static void receiver(void) {
   for (uint32_t i = 0; i < 10; i++) {
     memset(m.bytes, (int)('a' + i), 8);
     memset(m.output, 0xA5, sizeof m.output);
-    CHECK(ARRIVE(i, 0, 8, 2, 8) == BUZZ_OK && m.a == 1 && m.b == 0 && m.c == i);
+    CHECK(ARRIVE(i, 0, 8, 2, 8) == BUZZ_OK && m.a == 1 && m.b == 0 && m.c == i && m.d == 0 && m.e == 0 && m.f == 8);
     CHECK(m.output[0] == 'a' + i && m.output[7] == 'a' + i && m.output[8] == 0xA5);
   }
   CHECK(ARRIVE(2, 0, 8, 0, 0) == BUZZ_OK && m.a == 0 && m.b == 0 && m.c == 2);

@@ -11,7 +11,7 @@
 #ifndef WRONG
 #define WRONG 0
 #endif
-enum { WRONGS = 28 }; /* the errors are numbered 1 to this */
+enum { WRONGS = 31 }; /* the errors are numbered 1 to this */
 
 /* ---- characters and captures ---- */
 
@@ -44,6 +44,8 @@ int ref_is_control(uint32_t byte); /* one of the twelve */
 void ref_check_bytes(uint32_t crc, uint32_t *first, uint32_t *second);
 uint32_t ref_reader_fresh(uint32_t size, ref_reader *reader);
 uint32_t ref_reader_step(ref_reader *reader, uint32_t violation, uint32_t byte, uint32_t control, uint32_t *event, uint32_t *value, uint32_t *number);
+uint32_t ref_read_capture(const uint8_t *capture, size_t length, ref_reader *reader, int32_t *disparity, uint32_t *events, size_t room, size_t *count);
+uint32_t ref_crc16(const uint8_t *bytes, size_t length, uint8_t *check);
 uint32_t ref_write_data(uint32_t channel, const uint8_t *bytes, size_t length, uint32_t bad, int32_t *disparity,
                         uint16_t *characters, size_t room, size_t *count);
 uint32_t ref_write_priority(uint32_t size, uint32_t channel, uint32_t segment, const uint8_t *bytes, size_t length,
@@ -73,7 +75,8 @@ uint32_t ref_sender_tick(ref_sender *sender, uint32_t *fell);
 uint32_t ref_receiver_fresh(uint32_t size, ref_receiver *receiver);
 uint32_t ref_receiver_arrival(ref_receiver *receiver, uint32_t number, uint32_t channel, uint32_t bad, const uint8_t *bytes,
                               size_t length, uint32_t room, uint8_t *output, size_t output_length,
-                              uint32_t *delivered, uint32_t *nack, uint32_t *reply);
+                              uint32_t *delivered, uint32_t *delivered_channel, uint32_t *delivered_bad, uint32_t *delivered_length,
+                              uint32_t *nack, uint32_t *reply);
 uint32_t ref_receiver_damaged_arrival(ref_receiver *receiver, uint32_t *nack, uint32_t *reply);
 
 #endif

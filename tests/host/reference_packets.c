@@ -178,6 +178,33 @@ uint32_t ref_reader_step(ref_reader *reader, uint32_t violation, uint32_t byte, 
   return 0;
 }
 
+/* Every character of a capture, read and stepped: an event each, as one number. */
+uint32_t ref_read_capture(const uint8_t *capture, size_t length, ref_reader *reader, int32_t *disparity, uint32_t *events, size_t room, size_t *count) {
+  size_t n = 0;
+  if (ref_capture_count(capture, length, &n)) return 8;
+  if (WRONG == 30 && room < n) return 6;
+  if (reader->broken || (*disparity != -1 && *disparity != 1)) return 1;
+  if (room < n) return 6;
+  for (size_t i = 0; i < n; i++) {
+    uint32_t character, violation, byte, control, event, value, number;
+    (void)ref_capture_character(capture, length, i, &character);
+    (void)ref_read_character(character, disparity, &violation, &byte, &control);
+    (void)ref_reader_step(reader, violation, byte, control, &event, &value, &number);
+    events[i] = 65536 * event + 256 * number + value;
+  }
+  *count = n;
+  return 0;
+}
+
+uint32_t ref_crc16(const uint8_t *bytes, size_t length, uint8_t *check) {
+  uint32_t crc = 0xFFFF, first, second;
+  for (size_t i = 0; i < length; i++) crc = crc_byte(crc, bytes[i]);
+  ref_check_bytes(crc, &first, &second);
+  check[WRONG == 31] = (uint8_t)first;
+  check[WRONG != 31] = (uint8_t)second;
+  return 0;
+}
+
 /* The writer: a symbol behind those that are there. */
 static void put(uint32_t byte, uint32_t control, int32_t *disparity, uint16_t *characters, size_t *n) {
   uint32_t character = 0;

@@ -116,9 +116,9 @@ uint32_t ref_receiver_fresh(uint32_t size, ref_receiver *receiver) {
 
 uint32_t ref_receiver_arrival(ref_receiver *receiver, uint32_t number, uint32_t channel, uint32_t bad, const uint8_t *bytes,
                               size_t length, uint32_t room, uint8_t *output, size_t output_length,
-                              uint32_t *delivered, uint32_t *nack, uint32_t *reply) {
+                              uint32_t *delivered, uint32_t *delivered_channel, uint32_t *delivered_bad, uint32_t *delivered_length,
+                              uint32_t *nack, uint32_t *reply) {
   uint32_t back = (receiver->expected + 16 - number % 16) % 16;
-  (void)bad;
   if (receiver->broken || number > 15 || channel > 15) return 1;
   if (length > receiver->size) return 2;
   if (length == 0) return 4;
@@ -127,10 +127,11 @@ uint32_t ref_receiver_arrival(ref_receiver *receiver, uint32_t number, uint32_t 
     memcpy(output, bytes, length);
     receiver->expected = (receiver->expected + 1) % 16;
     if (receiver->received < 8) receiver->received++;
-    *delivered = 1, *nack = 0, *reply = number;
+    *delivered = 1, *delivered_channel = channel, *delivered_bad = WRONG == 29 ? bad : bad != 0, *delivered_length = (uint32_t)length;
+    *nack = 0, *reply = number;
     return 0;
   }
-  *delivered = 0;
+  *delivered = *delivered_channel = *delivered_bad = *delivered_length = 0;
   *nack = !(back >= 1 && back <= (WRONG == 27 ? 8 : receiver->received));
   *reply = *nack ? receiver->expected : number;
   return 0;

@@ -11,113 +11,39 @@
  * What is checked is seen from outside, counted from what crosses the calls: delivered is what was accepted, in order, each once; an offer is refused
  * exactly at eight stored; a sent segment is a stored one with its content; the link falls exactly at the third expiry since the last clearing; and
  * the recovery drill, at random moments with fewer than two expiries counted, delivers everything, after which eight offers are accepted. */
-#include "buzzgarland.h"
-#include <stdio.h>
-#include <stdlib.h>
-#include <string.h>
+#include "soak.h"
 
 #ifndef WRONG
 #define WRONG 0 /* 1 to 6: a host that breaks what the demand takes for granted. Each must be found. */
 #endif
 
-enum { MOST_S = 1024, QUEUE = 24, KEPT = 64, LETTERS = MOST_S + 6 };
+enum { KEPT = 64 };
 struct segment { uint32_t length, channel, bad; uint8_t bytes[MOST_S]; };
-struct item { size_t count; uint16_t run[LETTERS]; uint64_t index; uint32_t nack, number; int is_flush; };
-struct line { int32_t writing, reading; buzz_reader reader; struct item items[QUEUE]; uint32_t first, n; };
 
 static struct line forth, back;
 static buzz_sender sender, sender_copy;
 static buzz_receiver receiver;
 static uint8_t buffers[8 * MOST_S];
 static struct segment accepted_ones[KEPT];
-static uint32_t S, T, timer, expiries, up, losses, damages;       /* of this life */
+static uint32_t S, T, timer, expiries, up;                        /* of this life */
 static uint64_t accepted, gone, released, delivered;              /* of this life: counts from outside */
 static uint64_t events, lives, drills, unseen, sum_delivered, falls, marked; /* of the whole run */
 static uint64_t seed, chance_state;
 
-static uint32_t below(uint32_t n) {
+uint32_t below(uint32_t n) {
   chance_state ^= chance_state << 13;
   chance_state ^= chance_state >> 7;
   chance_state ^= chance_state << 17;
   return (uint32_t)((chance_state >> 21 & UINT32_MAX) * n >> 32);
 }
-static int one_in(uint32_t n) { return n != 0 && below(n) == 0; }
-static void fail(const char *what) {
+int one_in(uint32_t n) { return n != 0 && below(n) == 0; }
+void fail(const char *what) {
   printf("soak.c: seed %llu, event %llu, S %u, T %u: %s (accepted %llu, gone %llu, released %llu, delivered %llu, expiries %u)\n", (unsigned long long)seed,
          (unsigned long long)events, (unsigned)S, (unsigned)T, what, (unsigned long long)accepted, (unsigned long long)gone, (unsigned long long)released,
          (unsigned long long)delivered, (unsigned)expiries);
   exit(1);
 }
-static void must(uint32_t refusal, const char *call) { if (refusal) fail(call); }
-
-/* ---- the lines ---- */
-
-/* Some characters turned or lost. */
-static void damage(struct item *it) {
-  for (uint32_t k = 1 + below(3); k > 0 && it->count > 0; k--) {
-    uint32_t at = below((uint32_t)it->count);
-    switch (below(4)) {
-    case 0: it->count = at; break; /* the rest is lost */
-    case 1: memmove(it->run + at, it->run + at + 1, (it->count - at - 1) * sizeof it->run[0]), it->count--; break;
-    case 2: it->run[at] = (uint16_t)below(1024); break;
-    default: it->run[at] ^= (uint16_t)(1u << below(10)); break;
-    }
-  }
-}
-
-/* The place for the next item of a line, or none: then it is lost. */
-static struct item *behind(struct line *l) { return l->n == QUEUE ? NULL : &l->items[(l->first + l->n) % QUEUE]; }
-
-static void onto(struct line *l, int faults) {
-  struct item *it = behind(l);
-  if (faults && one_in(losses)) return;
-  if (faults && one_in(damages)) damage(it);
-  l->n++;
-}
-
-/* A last character that is out of place everywhere: it leaves the reader dropping, at the writer's disparity, so that a whole packet after it is read. */
-static void flush(struct line *l) {
-  struct item *it = behind(l);
-  uint32_t c;
-  must(buzz_write_character(0x7C, 1, &l->writing, &c), "ALN is refused");
-  it->run[0] = (uint16_t)c, it->count = 1, it->is_flush = 1;
-  l->n++;
-}
-
-/* What the characters of an item were read as. */
-struct heard { int violations, ends, replies; uint32_t priority, number, channel, bad, nack, reply; size_t length; uint8_t bytes[MOST_S]; };
-
-static void step(struct line *l, uint32_t violation, uint32_t byte, uint32_t control, struct heard *h) {
-  uint32_t event, value, number;
-  must(buzz_reader_step(&l->reader, violation, byte, control, &event, &value, &number), "a step is refused");
-  switch (event) {
-  case BUZZ_START_PRIORITY: h->priority = 1, h->channel = value, h->number = number, h->length = 0; break;
-  case BUZZ_START_DATA: h->priority = 0; break;
-  case BUZZ_BYTE: if (h->length < S) h->bytes[h->length++] = (uint8_t)value; break;
-  case BUZZ_END: h->ends++, h->bad = value; break;
-  case BUZZ_LMP: h->replies++, h->nack = value, h->reply = number; break;
-  case BUZZ_VIOLATION: h->violations++; break;
-  }
-}
-
-/* The first item of a line, read: by single characters or as a run. */
-static struct item *hear(struct line *l, struct heard *h) {
-  static uint16_t results[LETTERS];
-  struct item *it = &l->items[l->first];
-  l->first = (l->first + 1) % QUEUE, l->n--;
-  h->violations = h->ends = h->replies = 0, h->priority = 0, h->length = 0;
-  if (one_in(2)) {
-    must(buzz_read_characters(it->run, it->count, &l->reading, results, it->count), "a run is refused");
-    for (size_t i = 0; i < it->count; i++) step(l, results[i] >> 9 & 3, results[i] & 255, results[i] >> 8 & 1, h);
-  } else {
-    for (size_t i = 0; i < it->count; i++) {
-      uint32_t violation, byte, control;
-      must(buzz_read_character(it->run[i], &l->reading, &violation, &byte, &control), "a character is refused");
-      step(l, violation, byte, control, h);
-    }
-  }
-  return it;
-}
+void must(uint32_t refusal, const char *call) { if (refusal) fail(call); }
 
 /* ---- what the hosts do ---- */
 
@@ -164,15 +90,16 @@ static void answer(uint32_t nack, uint32_t number, int faults) {
 /* A valid segment at the far end, with or without room, sometimes with an output that is too short. */
 static void arrive(const struct item *it, const struct heard *h, int faults, uint32_t room) {
   static uint8_t output[MOST_S];
-  uint32_t done, nack, reply;
+  uint32_t done, channel, bad, told, nack, reply;
   size_t length = faults && one_in(20) ? below((uint32_t)h->length) : h->length;
-  uint32_t refusal = buzz_receiver_arrival(&receiver, h->number, h->channel, h->bad, h->bytes, h->length, room, output, length, &done, &nack, &reply);
+  uint32_t refusal = buzz_receiver_arrival(&receiver, h->number, h->channel, h->bad, h->bytes, h->length, room, output, length, &done, &channel, &bad, &told,
+                                           &nack, &reply);
   if (refusal == BUZZ_SHORT_OUTPUT && length < h->length && room && it->index == delivered) return; /* nothing happened, and no reply */
   must(refusal, "an arrival is refused");
   if (done) {
     const struct segment *s = &accepted_ones[delivered % KEPT];
     if (delivered == accepted || it->index != delivered || length < h->length) fail("delivered out of order, or twice, or too much");
-    if (s->length != h->length || s->channel != h->channel || s->bad != h->bad || memcmp(s->bytes, output, s->length) != 0) fail("another content arrives");
+    if (s->length != told || s->channel != channel || s->bad != bad || memcmp(s->bytes, output, s->length) != 0) fail("another content arrives");
     delivered++, sum_delivered++;
   }
   answer(nack, reply, faults);

@@ -42,8 +42,10 @@ static inline uint32_t wrong_send(buzz_sender *sender, const uint8_t *buffers, s
 
 /* 5: a segment that is not delivered stands in the output. */
 static inline uint32_t wrong_arrival(buzz_receiver *receiver, uint32_t number, uint32_t channel, uint32_t bad, const uint8_t *bytes, size_t length,
-                                     uint32_t room, uint8_t *output, size_t output_length, uint32_t *delivered, uint32_t *nack, uint32_t *reply) {
-  uint32_t answer = buzz_receiver_arrival(receiver, number, channel, bad, bytes, length, room, output, output_length, delivered, nack, reply);
+                                     uint32_t room, uint8_t *output, size_t output_length, uint32_t *delivered, uint32_t *delivered_channel,
+                                     uint32_t *delivered_bad, uint32_t *delivered_length, uint32_t *nack, uint32_t *reply) {
+  uint32_t answer = buzz_receiver_arrival(receiver, number, channel, bad, bytes, length, room, output, output_length, delivered, delivered_channel,
+                                          delivered_bad, delivered_length, nack, reply);
   if (WRONG_ARCHIVE == 5 && answer == 0 && !*delivered && output_length >= length) memcpy(output, bytes, length);
   return answer;
 }
