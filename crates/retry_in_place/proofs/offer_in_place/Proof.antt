@@ -60,7 +60,7 @@ use Rattle.retry_buffers.proofs.offer as callee
 use Rattle.retry_buffers.proofs.offer.Symbol as callee-def
 use Rattle.retry_buffers.proofs.offer.Symbol.{name as #callee}
 use Rattle.retry_buffers.proofs.offer.Met as callee-thm
-use Rattle.retry_in_place.proofs.Held.{machs, opened, closed}
+use Rattle.retry_in_place.proofs.Behind.{machs, opened, closed}
 use Rattle.retry_in_place.proofs.offer_in_place.Key.{name as #thin}
 use Rattle.retry_in_place.proofs.offer_in_place as thin
 use Rattle.retry_in_place.proofs.offer_in_place.Statement as stated

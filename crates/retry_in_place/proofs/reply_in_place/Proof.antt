@@ -53,7 +53,7 @@ use Rattle.retry_replies.proofs.replies.reply as callee
 use Rattle.retry_replies.proofs.replies.reply.Symbol as callee-def
 use Rattle.retry_replies.proofs.replies.reply.Symbol.{name as #callee}
 use Rattle.retry_replies.proofs.replies.reply.Met as callee-thm
-use Rattle.retry_in_place.proofs.Held.{machs, opened, closed}
+use Rattle.retry_in_place.proofs.Behind.{machs, opened, closed}
 use Rattle.retry_in_place.proofs.reply_in_place.Key.{name as #thin}
 use Rattle.retry_in_place.proofs.reply_in_place as thin
 use Rattle.retry_in_place.proofs.reply_in_place.Statement as stated

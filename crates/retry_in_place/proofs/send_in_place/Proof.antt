@@ -58,7 +58,7 @@ use Rattle.retry_buffers.proofs.send as callee
 use Rattle.retry_buffers.proofs.send.Symbol as callee-def
 use Rattle.retry_buffers.proofs.send.Symbol.{name as #callee}
 use Rattle.retry_buffers.proofs.send.Met as callee-thm
-use Rattle.retry_in_place.proofs.Held.{machs, opened, closed}
+use Rattle.retry_in_place.proofs.Behind.{machs, opened, closed}
 use Rattle.retry_in_place.proofs.send_in_place.Key.{name as #thin}
 use Rattle.retry_in_place.proofs.send_in_place as thin
 use Rattle.retry_in_place.proofs.send_in_place.Statement as stated

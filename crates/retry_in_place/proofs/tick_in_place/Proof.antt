@@ -52,7 +52,7 @@ use Rattle.retry_replies.proofs.timer.tick as callee
 use Rattle.retry_replies.proofs.timer.tick.Symbol as callee-def
 use Rattle.retry_replies.proofs.timer.tick.Symbol.{name as #callee}
 use Rattle.retry_replies.proofs.timer.tick.Met as callee-thm
-use Rattle.retry_in_place.proofs.Held.{machs, opened, closed}
+use Rattle.retry_in_place.proofs.Behind.{machs, opened, closed}
 use Rattle.retry_in_place.proofs.tick_in_place.Key.{name as #thin}
 use Rattle.retry_in_place.proofs.tick_in_place as thin
 use Rattle.retry_in_place.proofs.tick_in_place.Statement as stated
