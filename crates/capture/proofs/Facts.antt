@@ -69,7 +69,8 @@ module _ (result old : List ℕ) where
       ∙ ap (λ (j : ℕ). drop j old) (sym cut)
 
   -- first k are stored, and then the others, up to all n
-  pub all-stored : (k i n : ℕ) (mid xs : List ℕ) → k ≤ n → i ≡ n → length result ≡ n → mid ≡ Front k → xs ≡ take i result ++ drop i mid → xs ≡ result ++ drop n old
+  pub all-stored : (k i n : ℕ) (mid xs : List ℕ) → k ≤ n → i ≡ n → length result ≡ n → mid ≡ Front k → xs ≡ take i result ++ drop i mid
+      → xs ≡ result ++ drop n old
   all-stored k i n mid xs h e size m x =
       x
       ∙ ap (λ (j : ℕ). take j result ++ drop j mid) e

@@ -1,6 +1,7 @@
 -- A thin function over a pane by value, `F(pane.capture, pane.place)`, with F a covered function whose answer says `Of capture place`.
 -- The walk of its MIR is here once, over F's key and over `Of`; the proofs of `place` and of `here` cite `looks-meets`.
--- The pane is Copy: what it owns is had twice, one copy is kept whole for the exit, and of the other what the capture owns goes to F, beside the lifetime's token, which comes back.
+-- The pane is Copy: what it owns is had twice, one copy is kept whole for the exit, and of the other what the capture owns goes to F, beside the lifetime's
+-- token, which comes back.
 -- Assumes nothing.
 use mathlib.Core.Path.{_≡_, refl}
 use Prim.Native.Nat.{ℕ, _<_, _^_}
@@ -16,9 +17,11 @@ use prog.Wp.{Heap, Calls, Loops, WpFn, Tables}
 use ghost.Atoms.{Atoms, sem}
 use contract.Lifetimes.{Lfts}
 use contract.Monad.{fact}
-use types.Kit.{Given, ‵, raw, _⊛_, given, ⋆, some, later, _$_, _∵_, !, qed, by, move, drop, use1, use2, split, join, learn, pick, fsplit, fjoin, suffices, frame, await, done}
+use types.Kit.{Given, ‵, raw, _⊛_, given, ⋆, some, later, _$_, _∵_, !, qed, by, move}
+use types.Kit.{drop, use1, use2, split, join, learn, pick, fsplit, fjoin, suffices, frame, await, done}
 use types.Part.{whole, sub, look-in}
-use types.Run.{look, init, forget, stop, fld, from, load, of-opd, and-then, no-more, assigns, land, returns, enter, alloc1, alloc0, params1, pass1, pass0, free1, free0}
+use types.Run.{look, init, forget, stop, fld, from, load, of-opd, and-then, no-more, assigns}
+use types.Run.{land, returns, enter, alloc1, alloc0, params1, pass1, pass0, free1, free0}
 use sound.WpLaws.{FmC, fmOf, WpFn-mono}
 use denote.RattleType.{RattleType, owns}
 use denote.Laws.{Is, shows}
@@ -76,7 +79,8 @@ fn k = record {
   lifetimes = 1;
   outlives = [];
   params = 1;
-  locals = local S′.mir valueLocal ∷ local (T′.mir (named 0)) valueLocal ∷ local (sliceTy (tyRef erased imm (tyInt w8))) valueLocal ∷ local (tyInt w64) valueLocal ∷ [];
+  locals = local S′.mir valueLocal ∷ local (T′.mir (named 0)) valueLocal ∷ local (sliceTy (tyRef erased imm (tyInt w8))) valueLocal ∷ local
+      (tyInt w64) valueLocal ∷ [];
   body = seq (assign (place 2 []) (rvOpd (copy (place 1 (field 0 ∷ [])))))
       (seq (assign (place 3 []) (rvOpd (copy (place 1 (field 1 ∷ [])))))
       (seq (call k (copy (place 2 []) ∷ copy (place 3 []) ∷ []) (place 0 [])) return));
@@ -134,16 +138,20 @@ module _ (Of : List ℕ → ℕ → Said) where
       to = (((κ, tt), (q, tt), tt, (d .capture, (d .place, tt)), passed), tt)
 
       asked : ent 𝓤 (onEntry 𝓤 H A c-sig (κ, tt) (q, tt) (d .capture, (d .place, tt)) passed) (Callee 𝓤 H A .pre to)
-      asked = qed W ((‵ (flft κ q) ⊛ ‵ ftrue) ∷ ‵ (owns (ShrSlice (named 0) κ u8 ∷ usize ∷ []) (d .capture, (d .place, tt)) passed) ∷ []) ∵ join ! $ frame ! $ done !
+      asked = qed W ((‵ (flft κ q) ⊛ ‵ ftrue) ∷ ‵ (owns (ShrSlice (named 0) κ u8 ∷ usize ∷ []) (d .capture, (d .place, tt)) passed) ∷ []) ∵ join ! $ frame ! $
+          done !
 
       -- what the struct owns gives what the callee asks, and is kept
       apart : d .place < 2 ^ 64 → ent 𝓤 (onEntry 𝓤 H A sig (κ, tt) (q, tt) (d, tt) (mach ∷ [], tt)) (sep 𝓤 (Callee 𝓤 H A .pre to) (sem 𝓤 H A Own))
       apart fits =
           qed W ((‵ (flft κ q) ⊛ ‵ ftrue) ∷ ‵ (owns (B (κ, tt) ∷ []) (d, tt) (mach ∷ [], tt)) ∷ []) ∵
-          move ! (1 ∷ []) $ fsplit ! $ move ! (1 ∷ []) $ drop ! $ use1 W (‵ Own ⊛ ‵ Own) (LL.copy D (T′.the-copy (namedLft 1 0 tt (κ, tt))) 𝓤 H A W .twice d (mach ∷ [])) $ split ! $
-          use1 W (given (mach ∷ [] ≡ mach ∷ []) (‵ (all-own (D .parts) L vd))) (own-open 𝓤 H A W D L vd mach) $ learn ! (λ _. use1 W (‵ (ownAt (D .parts) L 0 (d .capture)) ⊛ ‵ (rest (D .parts) L 0 vd)) (own-out 𝓤 H A W (D .parts) L 0 vd) $ split ! $
+          move ! (1 ∷ []) $ fsplit ! $ move ! (1 ∷ []) $ drop ! $
+          use1 W (‵ Own ⊛ ‵ Own) (LL.copy D (T′.the-copy (namedLft 1 0 tt (κ, tt))) 𝓤 H A W .twice d (mach ∷ [])) $ split ! $
+          use1 W (given (mach ∷ [] ≡ mach ∷ []) (‵ (all-own (D .parts) L vd))) (own-open 𝓤 H A W D L vd mach) $
+          learn ! (λ _. use1 W (‵ (ownAt (D .parts) L 0 (d .capture)) ⊛ ‵ (rest (D .parts) L 0 vd)) (own-out 𝓤 H A W (D .parts) L 0 vd) $ split ! $
           -- [what capture owns; what place owns; what the struct owns; the token]
-          move ! (1 ∷ []) $ drop ! $ nothing ! $ owned ! usize (Is usize) (uint-makes 𝓤 H A W w64) (d .place) _ (refl, fits) $ fjoin ! $ move ! (1 ∷ 0 ∷ []) $ fjoin ! $
+          move ! (1 ∷ []) $ drop ! $ nothing ! $ owned ! usize (Is usize) (uint-makes 𝓤 H A W w64) (d .place) _ (refl, fits) $ fjoin ! $ move ! (1 ∷ 0 ∷ []) $
+          fjoin ! $
           move ! (2 ∷ 0 ∷ []) $ use2 W (raw (Callee 𝓤 H A .pre to)) asked $ frame ! $ done !)
 
       -- of the callee's `ensured`, the clause alone: it has no `&mut`, so what is said of last values is dropped
@@ -157,30 +165,41 @@ module _ (Of : List ℕ → ℕ → Said) where
           move ! (1 ∷ []) $ frame ! $ nothing ! $ move ! (2 ∷ 0 ∷ []) $ fjoin ! $ frame ! $ done !
 
       module _ (C : Calls 𝓤 H) (Λ : Loops 𝓤 H) (fm : FmC 𝓤 H (W .laws) C) (known : Triple 𝓤 (C key) (Callee 𝓤 H A)) where
-        walk : Holds (hasTy (T′.mir (named 0)) mach) × WT mach → ent 𝓤 (onEntry 𝓤 H A sig (κ, tt) (q, tt) (d, tt) (mach ∷ [], tt)) (WpFn 𝓤 H C Λ (fn key) (mach ∷ []) Post)
+        walk : Holds (hasTy (T′.mir (named 0)) mach) × WT mach
+            → ent 𝓤 (onEntry 𝓤 H A sig (κ, tt) (q, tt) (d, tt) (mach ∷ [], tt)) (WpFn 𝓤 H C Λ (fn key) (mach ∷ []) Post)
         walk wt =
             qed W (raw (onEntry 𝓤 H A sig (κ, tt) (q, tt) (d, tt) (mach ∷ [], tt)) ∷ []) ∵ enter ! C Λ (fn key) (mach ∷ []) _ $
             alloc1 ! (λ l₀. alloc1 ! (λ l₁. alloc1 ! (λ l₂. alloc1 ! (λ l₃. alloc0 ! $ params1 ! $ pass1 ! (init ! 4 refl wt) $ pass0 ! $
-            assigns ! (of-opd ! (load ! (from ! (fld ! refl (stop !))) (look-in ! 4 (sub ! 0 refl (whole !))))) (from ! (stop !)) (init ! 2 refl (tt, wt .1 .0)) $
-            assigns ! (of-opd ! (load ! (from ! (fld ! refl (stop !))) (look-in ! 4 (sub ! 1 refl (whole !))))) (from ! (stop !)) (init ! 0 refl (tt, wt .1 .1 .0)) $
+            assigns ! (of-opd ! (load ! (from ! (fld ! refl (stop !))) (look-in ! 4 (sub ! 0 refl (whole !))))) (from ! (stop !))
+            (init ! 2 refl (tt, wt .1 .0)) $
+            assigns ! (of-opd ! (load ! (from ! (fld ! refl (stop !))) (look-in ! 4 (sub ! 1 refl (whole !))))) (from ! (stop !))
+            (init ! 0 refl (tt, wt .1 .1 .0)) $
             move ! (8 ∷ []) $ use1 W (raw (Callee 𝓤 H A .pre to) ⊛ ‵ Own) (apart (wt .1 .1 .0 .fits)) $ split ! $
-            calls-at ! fm (Callee 𝓤 H A) known to (and-then ! (load ! (from ! (stop !)) (look ! 4 refl)) (and-then ! (load ! (from ! (stop !)) (look ! 2 refl)) (no-more !))) (λ u.
-            use1 W (later (some (λ (r : Answer). ((‵ (flft κ q) ⊛ ‵ ftrue) ⊛ ‵ (S.the-row .own r (u ∷ []))) ⊛ raw (ensured 𝓤 H A c-ended (c-clauses 𝓤) (κ, tt) (d .capture, (d .place, tt)) tt r)))) (id⊢ 𝓤 _) $ await ! tt $ pick ! (λ r.
+            calls-at ! fm (Callee 𝓤 H A) known to (and-then ! (load ! (from ! (stop !)) (look ! 4 refl))
+            (and-then ! (load ! (from ! (stop !)) (look ! 2 refl)) (no-more !))) (λ u.
+            use1 W (later (some (λ (r : Answer). ((‵ (flft κ q) ⊛ ‵ ftrue) ⊛ ‵ (S.the-row .own r (u ∷ []))) ⊛
+            raw (ensured 𝓤 H A c-ended (c-clauses 𝓤) (κ, tt) (d .capture, (d .place, tt)) tt r)))) (id⊢ 𝓤 _) $ await ! tt $ pick ! (λ r.
             split ! $ move ! (1 ∷ []) $ use1 W (raw (fact 𝓤 (saying r ≡ found))) (said r) $ heard ! (saying r ≡ found) (λ e. split ! $ move ! (1 ∷ []) $
             -- [the result; the token; what the struct owns; _3; …; _2; …; _1; …; room for _0; …]
             peeks ! S.the-row (Is S.the-row) (shows 𝓤 H A S.the-row) r (u ∷ []) (λ is.
             land ! (from ! (stop !)) (init ! 9 refl (EL.lawful S.the-type S′.the-laws 𝓤 H A W tt .typed r _ is .0)) $
             returns ! (look ! 9 refl) $ forget ! 3 refl $ forget ! 5 refl $ forget ! 7 refl $ forget ! 9 refl $
-            move ! (9 ∷ 10 ∷ []) $ free1 ! $ move ! (7 ∷ 8 ∷ []) $ free1 ! $ move ! (5 ∷ 6 ∷ []) $ free1 ! $ move ! (3 ∷ 4 ∷ []) $ free1 ! $ free0 ! $ by ! (exits r u e)))))))))
+            move ! (9 ∷ 10 ∷ []) $ free1 ! $ move ! (7 ∷ 8 ∷ []) $ free1 ! $ move ! (5 ∷ 6 ∷ []) $ free1 ! $ move ! (3 ∷ 4 ∷ []) $ free1 ! $ free0 ! $
+            by ! (exits r u e)))))))))
 
     module _ {M : Type 1} (𝓤 : URA M) (H : Heap 𝓤) (A : Atoms 𝓤) (W : Given 𝓤 H A) where
       looks-walks : (C : Calls 𝓤 H) (Λ : Loops 𝓤 H) → FmC 𝓤 H (W .laws) C → Triple 𝓤 (C key) (Callee 𝓤 H A)
           → Walks 𝓤 H A ended stayed (WpFn 𝓤 H C Λ (fn key)) (clauses 𝓤)
-      looks-walks C Λ fm known = walked 𝓤 H A ended stayed (clauses 𝓤) (WpFn 𝓤 H C Λ (fn key)) (λ κs. (LL.vals (T.the-type (namedLft 1 0 tt κs)) (T′.the-laws (namedLft 1 0 tt κs)), tt)) (λ κs. (LL.tells (T.the-type (namedLft 1 0 tt κs)) (T′.the-laws (namedLft 1 0 tt κs)), tt))
-          (λ κs qs bounds a g are. via 𝓤 _ (fst∗ 𝓤 _ (emp 𝓤)) (walk 𝓤 H A W (κs .0) (qs .0) (a .0) C Λ fm known (LL.lawful (T.the-type (namedLft 1 0 tt κs)) (T′.the-laws (namedLft 1 0 tt κs)) 𝓤 H A W .typed (a .0) _ (are .0) .0)))
+      looks-walks C Λ fm known = walked 𝓤 H A ended stayed (clauses 𝓤) (WpFn 𝓤 H C Λ (fn key))
+          (λ κs. (LL.vals (T.the-type (namedLft 1 0 tt κs)) (T′.the-laws (namedLft 1 0 tt κs)), tt))
+          (λ κs. (LL.tells (T.the-type (namedLft 1 0 tt κs)) (T′.the-laws (namedLft 1 0 tt κs)), tt))
+          (λ κs qs bounds a g are. via 𝓤 _ (fst∗ 𝓤 _ (emp 𝓤))
+          (walk 𝓤 H A W (κs .0) (qs .0) (a .0) C Λ fm known
+          (LL.lawful (T.the-type (namedLft 1 0 tt κs)) (T′.the-laws (namedLft 1 0 tt κs)) 𝓤 H A W .typed (a .0) _ (are .0) .0)))
 
     pub looks-meets : {M : Type 1} (𝓤 : URA M) (H : Heap 𝓤) (A : Atoms 𝓤) (W : Given 𝓤 H A) (𝓣 : Tables 𝓤 H)
         → Triple 𝓤 (𝓣 .C key) (Callee 𝓤 H A)
         → Meets 𝓤 H A sig (WpFn 𝓤 H (𝓣 .C) (𝓣 .Λ) (fn key)) (closing 𝓤 H A ended (clauses 𝓤))
-    looks-meets 𝓤 H A W 𝓣 known = walk-meets 𝓤 H A ended stayed W (goes-none 𝓤 H A W 1 B yes (λ κs x f. refl), tt) (clauses 𝓤) (WpFn 𝓤 H (𝓣 .C) (𝓣 .Λ) (fn key)) (WpFn-mono 𝓤 H (W .laws) 𝓣 (fn key))
+    looks-meets 𝓤 H A W 𝓣 known = walk-meets 𝓤 H A ended stayed W (goes-none 𝓤 H A W 1 B yes (λ κs x f. refl), tt) (clauses 𝓤)
+        (WpFn 𝓤 H (𝓣 .C) (𝓣 .Λ) (fn key)) (WpFn-mono 𝓤 H (W .laws) 𝓣 (fn key))
         (looks-walks 𝓤 H A W (𝓣 .C) (𝓣 .Λ) (fmOf 𝓤 H (W .laws) 𝓣) known)

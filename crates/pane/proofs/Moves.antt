@@ -1,6 +1,8 @@
--- A thin function over the host's one pane, `let m = F(pane.capture, pane.place); pane.place = m.place; m`, with F a covered function that answers `Of capture place`.
+-- A thin function over the host's one pane, `let m = F(pane.capture, pane.place); pane.place = m.place; m`, with F a covered function that answers `Of
+-- capture place`.
 -- The walk of its MIR is here once, over F's key and over `Of`; the proofs of `forward` and of `back` cite `moves-meets`.
--- The borrow is opened, the slice and the place are copied out, F is called on them, the place that it answered is stored, and the borrow is closed at the new pane.
+-- The borrow is opened, the slice and the place are copied out, F is called on them, the place that it answered is stored, and the borrow is closed at the
+-- new pane.
 -- Assumes nothing.
 use mathlib.Core.Path.{_≡_, refl, ap, subst}
 use Prim.Native.Nat.{ℕ, _<_, _^_}
@@ -16,9 +18,11 @@ use prog.Wp.{Heap, Calls, Loops, WpFn, Tables}
 use ghost.Atoms.{Atoms, sem}
 use contract.Lifetimes.{AllOutlive}
 use contract.Monad.{fact}
-use types.Kit.{Given, ‵, raw, _⊛_, given, ⋆, some, later, _$_, _∵_, !, qed, by, move, keep, drop, use1, use2, split, join, learn, pick, rewrite, fsplit, fsplit3, fjoin, fjoin3, feqI, suffices, frame, await, done}
+use types.Kit.{Given, ‵, raw, _⊛_, given, ⋆, some, later, _$_, _∵_, !, qed, by, move, keep, drop}
+use types.Kit.{use1, use2, split, join, learn, pick, rewrite, fsplit, fsplit3, fjoin, fjoin3, feqI, suffices, frame, await, done}
 use types.Part.{whole, sub, look-in, store-in}
-use types.Run.{look, init, forget, stop, hop, fld, from, load, of-opd, and-then, no-more, assigns, land, returns, enter, alloc1, alloc0, params1, pass1, pass0, free1, free0}
+use types.Run.{look, init, forget, stop, hop, fld, from, load, of-opd, and-then, no-more}
+use types.Run.{assigns, land, returns, enter, alloc1, alloc0, params1, pass1, pass0, free1, free0}
 use types.SemTy.{Body}
 use sound.WpLaws.{FmC, fmOf, WpFn-mono}
 use denote.RattleType.{RattleType, owns}
@@ -107,7 +111,8 @@ module _ (Of : List ℕ → ℕ → Move) where
   clauses 𝓤 κs a = record {
     ghost = Unit {0};
     requires = λ g. emp 𝓤;
-    ensures = λ g r e. fact 𝓤 ((r ≡ Of (now (now (a .0) .capture)) (now (a .0) .place)) × (now (e .0) .capture ≡ now (a .0) .capture) × (now (e .0) .place ≡ Of (now (now (a .0) .capture)) (now (a .0) .place) .place));
+    ensures = λ g r e. fact 𝓤 ((r ≡ Of (now (now (a .0) .capture)) (now (a .0) .place)) × (now (e .0) .capture ≡ now (a .0) .capture) ×
+        (now (e .0) .place ≡ Of (now (now (a .0) .capture)) (now (a .0) .place) .place));
   }
 
   abbrev pub c-clauses : {M : Type 1} (𝓤 : URA M) → Clauses 𝓤 c-ended
@@ -119,7 +124,8 @@ module _ (Of : List ℕ → ℕ → Move) where
     Callee = tripleOf 𝓤 H A c-sig (closing 𝓤 H A c-ended (c-clauses 𝓤))
 
   module _ (X : Ty) (key : Name) where
-    module _ {M : Type 1} (𝓤 : URA M) (H : Heap 𝓤) (A : Atoms 𝓤) (W : Given 𝓤 H A) (κ κ′ : Lft) (q q′ : Share) (bounds : AllOutlive 2 (sig .outlives) (κ, (κ′, tt))) (b o : ℕ) (γ : GName) (h : Pane) where
+    module _ {M : Type 1} (𝓤 : URA M) (H : Heap 𝓤) (A : Atoms 𝓤) (W : Given 𝓤 H A) (κ κ′ : Lft) (q q′ : Share)
+        (bounds : AllOutlive 2 (sig .outlives) (κ, (κ′, tt))) (b o : ℕ) (γ : GName) (h : Pane) where
       abbrev x : RefT Pane × Unit {0}
       x = (record { ptr = (b, o); name = γ; now = h }, tt)
 
@@ -158,15 +164,18 @@ module _ (Of : List ℕ → ℕ → Move) where
       to = (((κ′, tt), (q′, tt), tt, (h .capture, (h .place, tt)), passed), tt)
 
       asked : ent 𝓤 (onEntry 𝓤 H A c-sig (κ′, tt) (q′, tt) (h .capture, (h .place, tt)) passed) (Callee 𝓤 H A .pre to)
-      asked = qed W ((‵ (flft κ′ q′) ⊛ ‵ ftrue) ∷ ‵ (owns (ShrSlice (named 0) κ′ u8 ∷ usize ∷ []) (h .capture, (h .place, tt)) passed) ∷ []) ∵ join ! $ frame ! $ done !
+      asked = qed W ((‵ (flft κ′ q′) ⊛ ‵ ftrue) ∷ ‵ (owns (ShrSlice (named 0) κ′ u8 ∷ usize ∷ []) (h .capture, (h .place, tt)) passed) ∷ []) ∵ join ! $
+          frame ! $ done !
 
       apart : h .place < 2 ^ 64 → ent 𝓤 (⋆ 𝓤 H A (‵ Own ∷ (‵ (flft κ′ q′) ⊛ ‵ ftrue) ∷ [])) (sep 𝓤 (Callee 𝓤 H A .pre to) (sem 𝓤 H A Own))
       apart fits =
           qed W (‵ Own ∷ (‵ (flft κ′ q′) ⊛ ‵ ftrue) ∷ []) ∵
           use1 W (‵ Own ⊛ ‵ Own) (LL.copy D (T′.the-copy (α κ′)) 𝓤 H A W .twice h (mach ∷ [])) $ split ! $
-          use1 W (given (mach ∷ [] ≡ mach ∷ []) (‵ (all-own (D .parts) L vd))) (own-open 𝓤 H A W D L vd mach) $ learn ! (λ _. use1 W (‵ (ownAt (D .parts) L 0 (h .capture)) ⊛ ‵ (rest (D .parts) L 0 vd)) (own-out 𝓤 H A W (D .parts) L 0 vd) $ split ! $
+          use1 W (given (mach ∷ [] ≡ mach ∷ []) (‵ (all-own (D .parts) L vd))) (own-open 𝓤 H A W D L vd mach) $
+          learn ! (λ _. use1 W (‵ (ownAt (D .parts) L 0 (h .capture)) ⊛ ‵ (rest (D .parts) L 0 vd)) (own-out 𝓤 H A W (D .parts) L 0 vd) $ split ! $
           -- [what capture owns; what place owns; what the struct owns; the token]
-          move ! (1 ∷ []) $ drop ! $ nothing ! $ owned ! usize (Is usize) (uint-makes 𝓤 H A W w64) (h .place) _ (refl, fits) $ fjoin ! $ move ! (1 ∷ 0 ∷ []) $ fjoin ! $
+          move ! (1 ∷ []) $ drop ! $ nothing ! $ owned ! usize (Is usize) (uint-makes 𝓤 H A W w64) (h .place) _ (refl, fits) $ fjoin ! $ move ! (1 ∷ 0 ∷ []) $
+          fjoin ! $
           move ! (2 ∷ 0 ∷ []) $ use2 W (raw (Callee 𝓤 H A .pre to)) asked $ frame ! $ done !)
 
       said : (r : Move) → ent 𝓤 (ensured 𝓤 H A c-ended (c-clauses 𝓤) (κ′, tt) (h .capture, (h .place, tt)) tt r) (fact 𝓤 (r ≡ found))
@@ -174,7 +183,8 @@ module _ (Of : List ℕ → ℕ → Move) where
 
       -- what capture owns is kept, and place's facts are made anew
       again : (m : ℕ) → m < 2 ^ 64 → ent 𝓤 (sem 𝓤 H A Own) (sem 𝓤 H A (B κ′ .own (h′ m) (T′.lowered (h′ m) ∷ [])))
-      again m ok = qed W (‵ Own ∷ []) ∵ owned ! usize (Is usize) (uint-makes 𝓤 H A W w64) m _ (refl, ok) $ move ! (1 ∷ 0 ∷ []) $ by ! (own-put 𝓤 H A W D L 1 vd m mach)
+      again m ok = qed W (‵ Own ∷ []) ∵ owned ! usize (Is usize) (uint-makes 𝓤 H A W w64) m _ (refl, ok) $ move ! (1 ∷ 0 ∷ []) $
+          by ! (own-put 𝓤 H A W D L 1 vd m mach)
 
       -- a move's machine value, alone and as a list
       abbrev answer : Move → Val
@@ -183,12 +193,16 @@ module _ (Of : List ℕ → ℕ → Move) where
       abbrev answers : Move → List Val
       answers r = LL.vals S.the-type S′.the-laws r
 
-      exits : (r : Move) → r ≡ found → Is S.the-row r (answers r) → ent 𝓤 (⋆ 𝓤 H A (‵ (fobs γ (B κ′ .coded .code (h′ (r .place)))) ∷ ‵ (fbor κ (Body (mem (B κ′)) b o γ)) ∷ ‵ (flft κ q) ∷ (‵ (flft κ′ q′) ⊛ ‵ ftrue) ∷ [])) (Post (answer r))
+      exits : (r : Move) → r ≡ found → Is S.the-row r (answers r)
+          → ent 𝓤 (⋆ 𝓤 H A (‵ (fobs γ (B κ′ .coded .code (h′ (r .place)))) ∷ ‵ (fbor κ (Body (mem (B κ′)) b o γ)) ∷ ‵ (flft κ q) ∷
+          (‵ (flft κ′ q′) ⊛ ‵ ftrue) ∷ [])) (Post (answer r))
       exits r e is =
           qed W (‵ (fobs γ (B κ′ .coded .code (h′ (r .place)))) ∷ ‵ (fbor κ (Body (mem (B κ′)) b o γ)) ∷ ‵ (flft κ q) ∷ (‵ (flft κ′ q′) ⊛ ‵ ftrue) ∷ []) ∵
-          suffices ! _ (ends-at 𝓤 H A ended stayed (clauses 𝓤) W (((κ, (κ′, tt)), (q, (q′, tt)), bounds, x, at), tt) (answer r) r (h′ (r .place), tt) (tt, tt)) $
+          suffices ! _ (ends-at 𝓤 H A ended stayed (clauses 𝓤) W (((κ, (κ′, tt)), (q, (q′, tt)), bounds, x, at), tt) (answer r) r (h′ (r .place), tt)
+          (tt, tt)) $
           says ! (e, refl, ap (λ (m : Move). m .place) e) $
-          move ! (2 ∷ 3 ∷ []) $ join ! $ frame ! $ feqI ! (List Val) (vptr b o ∷ []) (vptr b o ∷ []) refl $ fjoin3 ! $ nothing ! $ move ! (1 ∷ 0 ∷ []) $ fjoin ! $
+          move ! (2 ∷ 3 ∷ []) $ join ! $ frame ! $ feqI ! (List Val) (vptr b o ∷ []) (vptr b o ∷ []) refl $ fjoin3 ! $ nothing ! $ move ! (1 ∷ 0 ∷ []) $
+          fjoin ! $
           owned ! S.the-row (Is S.the-row) ((LL.makes S.the-type S′.the-plain) 𝓤 H A) r _ is $ move ! (1 ∷ 0 ∷ []) $ done !
 
       module _ (C : Calls 𝓤 H) (Λ : Loops 𝓤 H) (fm : FmC 𝓤 H (W .laws) C) (known : Triple 𝓤 (C key) (Callee 𝓤 H A)) where
@@ -201,33 +215,48 @@ module _ (Of : List ℕ → ℕ → Move) where
             use1 W (‵ (fat fullShare (T′.mir erased) b o mach)) (W .laws .raw-at fullShare (T′.mir erased) b o mach) $
             move ! (1 ∷ []) $ peeks ! (B κ′) (Is (B κ′)) (shows 𝓤 H A (B κ′)) h (mach ∷ []) (λ was. move ! (1 ∷ 0 ∷ []) $
             -- [the struct's cell; what a Pane owns; the open borrow; obs; auth; 'a's token; true; _4; …; _3; …; _2; …; _1; …; room for _0; …]
-            assigns ! (of-opd ! (load ! (from ! (hop ! (look ! 13 refl) (fld ! refl (stop !)))) (look-in ! 0 (sub ! 0 refl (whole !))))) (from ! (stop !)) (init ! 9 refl (tt, LL.lawful D L 𝓤 H A W .typed h _ was .0 .1 .0)) $
-            assigns ! (of-opd ! (load ! (from ! (hop ! (look ! 13 refl) (fld ! refl (stop !)))) (look-in ! 0 (sub ! 1 refl (whole !))))) (from ! (stop !)) (init ! 7 refl (tt, LL.lawful D L 𝓤 H A W .typed h _ was .0 .1 .1 .0)) $
+            assigns ! (of-opd ! (load ! (from ! (hop ! (look ! 13 refl) (fld ! refl (stop !)))) (look-in ! 0 (sub ! 0 refl (whole !))))) (from ! (stop !))
+            (init ! 9 refl (tt, LL.lawful D L 𝓤 H A W .typed h _ was .0 .1 .0)) $
+            assigns ! (of-opd ! (load ! (from ! (hop ! (look ! 13 refl) (fld ! refl (stop !)))) (look-in ! 0 (sub ! 1 refl (whole !))))) (from ! (stop !))
+            (init ! 7 refl (tt, LL.lawful D L 𝓤 H A W .typed h _ was .0 .1 .1 .0)) $
             move ! (1 ∷ 5 ∷ []) $ use2 W (raw (Callee 𝓤 H A .pre to) ⊛ ‵ Own) (apart (LL.owed D L h _ was .1 .0 .1)) $ split ! $
             -- [what F asks; what a Pane owns; the struct's cell; the open borrow; obs; auth; true; _4; …; _3; …; _2; …; _1; …; room for _0; …]
-            calls-at ! fm (Callee 𝓤 H A) known to (and-then ! (load ! (from ! (stop !)) (look ! 9 refl)) (and-then ! (load ! (from ! (stop !)) (look ! 7 refl)) (no-more !))) (λ u.
-            use1 W (later (some (λ (r : Move). ((‵ (flft κ′ q′) ⊛ ‵ ftrue) ⊛ ‵ (S.the-row .own r (u ∷ []))) ⊛ raw (ensured 𝓤 H A c-ended (c-clauses 𝓤) (κ′, tt) (h .capture, (h .place, tt)) tt r)))) (id⊢ 𝓤 _) $ await ! tt $ pick ! (λ r.
+            calls-at ! fm (Callee 𝓤 H A) known to (and-then ! (load ! (from ! (stop !)) (look ! 9 refl))
+            (and-then ! (load ! (from ! (stop !)) (look ! 7 refl)) (no-more !))) (λ u.
+            use1 W (later (some (λ (r : Move). ((‵ (flft κ′ q′) ⊛ ‵ ftrue) ⊛ ‵ (S.the-row .own r (u ∷ []))) ⊛
+            raw (ensured 𝓤 H A c-ended (c-clauses 𝓤) (κ′, tt) (h .capture, (h .place, tt)) tt r)))) (id⊢ 𝓤 _) $ await ! tt $ pick ! (λ r.
             split ! $ move ! (1 ∷ []) $ use1 W (raw (fact 𝓤 (r ≡ found))) (said r) $ heard ! (r ≡ found) (λ e. split ! $ move ! (1 ∷ []) $
             -- [the move; 'a's token; what a Pane owns; the struct's cell; the open borrow; obs; auth; true; _4; …; _3; …; _2; …; _1; …; room for _0; …]
-            peeks ! S.the-row (Is S.the-row) (shows 𝓤 H A S.the-row) r (u ∷ []) (λ is. let same : Is S.the-row r (answers r) = subst (Is S.the-row r) (LL.tells S.the-type S′.the-laws r _ is) is in
+            peeks ! S.the-row (Is S.the-row) (shows 𝓤 H A S.the-row) r (u ∷ [])
+            (λ is. let same : Is S.the-row r (answers r) = subst (Is S.the-row r) (LL.tells S.the-type S′.the-laws r _ is) is in
             land ! (from ! (stop !)) (init ! 12 refl (LL.lawful S.the-type S′.the-laws 𝓤 H A W .typed r _ is .0)) $
             rewrite ! 12 (λ (w : Val). ‵ (fat fullShare S′.mir l₂ 0 w)) (ap only (LL.tells S.the-type S′.the-laws r _ is)) refl $
-            assigns ! (of-opd ! (load ! (from ! (fld ! refl (stop !))) (look-in ! 12 (sub ! 0 refl (whole !))))) (from ! (hop ! (look ! 14 refl) (fld ! refl (stop !)))) (store-in ! 3 (sub ! 1 refl (whole !)) (tt, record { fits = LL.owed S.the-type S′.the-laws r _ is .0 .1 })) $
-            assigns ! (of-opd ! (load ! (from ! (stop !)) (look ! 12 refl))) (from ! (stop !)) (init ! 16 refl (LL.lawful S.the-type S′.the-laws 𝓤 H A W .typed r _ same .0)) $
+            assigns ! (of-opd ! (load ! (from ! (fld ! refl (stop !))) (look-in ! 12 (sub ! 0 refl (whole !)))))
+            (from ! (hop ! (look ! 14 refl) (fld ! refl (stop !))))
+            (store-in ! 3 (sub ! 1 refl (whole !)) (tt, record { fits = LL.owed S.the-type S′.the-laws r _ is .0 .1 })) $
+            assigns ! (of-opd ! (load ! (from ! (stop !)) (look ! 12 refl))) (from ! (stop !))
+            (init ! 16 refl (LL.lawful S.the-type S′.the-laws 𝓤 H A W .typed r _ same .0)) $
             -- the borrow is closed at the new pane
-            drop ! $ move ! (1 ∷ []) $ use1 W (‵ (B κ′ .own (h′ (r .place)) (T′.lowered (h′ (r .place)) ∷ []))) (again (r .place) (LL.owed S.the-type S′.the-laws r _ is .0 .1)) $
-            move ! (2 ∷ []) $ use1 W (‵ (cellAt fullShare (B κ′ .mir) (T′.lowered (h′ (r .place)) ∷ []) b o)) (W .laws .at-raw fullShare (T′.mir erased) b o (T′.lowered (h′ (r .place)))) $
+            drop ! $ move ! (1 ∷ []) $ use1 W (‵ (B κ′ .own (h′ (r .place)) (T′.lowered (h′ (r .place)) ∷ [])))
+            (again (r .place) (LL.owed S.the-type S′.the-laws r _ is .0 .1)) $
+            move ! (2 ∷ []) $ use1 W (‵ (cellAt fullShare (B κ′ .mir) (T′.lowered (h′ (r .place)) ∷ []) b o))
+            (W .laws .at-raw fullShare (T′.mir erased) b o (T′.lowered (h′ (r .place)))) $
             move ! (0 ∷ 1 ∷ 3 ∷ 4 ∷ 5 ∷ []) $ closes ! tt (B κ′) (h′ (r .place)) (T′.lowered (h′ (r .place)) ∷ []) b o $
             -- [obs; the borrow; the token; 'a's token; true; _4; …; _3; …; _2; …; _1; …; _0; …]
             returns ! (look ! 13 refl) $ forget ! 5 refl $ forget ! 7 refl $ forget ! 9 refl $ forget ! 11 refl $ forget ! 13 refl $
-            move ! (13 ∷ 14 ∷ []) $ free1 ! $ move ! (11 ∷ 12 ∷ []) $ free1 ! $ move ! (9 ∷ 10 ∷ []) $ free1 ! $ move ! (7 ∷ 8 ∷ []) $ free1 ! $ move ! (5 ∷ 6 ∷ []) $ free1 ! $ free0 ! $ keep ! (0 ∷ 1 ∷ 2 ∷ 3 ∷ []) $ by ! (exits r e same))))))))))))
+            move ! (13 ∷ 14 ∷ []) $ free1 ! $ move ! (11 ∷ 12 ∷ []) $ free1 ! $ move ! (9 ∷ 10 ∷ []) $ free1 ! $ move ! (7 ∷ 8 ∷ []) $ free1 ! $
+            move ! (5 ∷ 6 ∷ []) $ free1 ! $ free0 ! $ keep ! (0 ∷ 1 ∷ 2 ∷ 3 ∷ []) $ by ! (exits r e same))))))))))))
 
     module _ {M : Type 1} (𝓤 : URA M) (H : Heap 𝓤) (A : Atoms 𝓤) (W : Given 𝓤 H A) where
-      moves-walks : (C : Calls 𝓤 H) (Λ : Loops 𝓤 H) → FmC 𝓤 H (W .laws) C → Triple 𝓤 (C key) (Callee 𝓤 H A) → Walks 𝓤 H A ended stayed (WpFn 𝓤 H C Λ (fn X key)) (clauses 𝓤)
-      moves-walks C Λ fm known = walked 𝓤 H A ended stayed (clauses 𝓤) (WpFn 𝓤 H C Λ (fn X key)) (λ κs. (ptr-vals, tt)) (λ κs. (mut-tells (named 0) (κs .0) (B (κs .1 .0)), tt))
-          (λ κs qs bounds a _ are. via 𝓤 _ (fst∗ 𝓤 _ (emp 𝓤)) (walk 𝓤 H A W (κs .0) (κs .1 .0) (qs .0) (qs .1 .0) bounds (a .0 .ptr .0) (a .0 .ptr .1) (a .0 .name) (a .0 .now) C Λ fm known))
+      moves-walks : (C : Calls 𝓤 H) (Λ : Loops 𝓤 H) → FmC 𝓤 H (W .laws) C → Triple 𝓤 (C key) (Callee 𝓤 H A)
+          → Walks 𝓤 H A ended stayed (WpFn 𝓤 H C Λ (fn X key)) (clauses 𝓤)
+      moves-walks C Λ fm known = walked 𝓤 H A ended stayed (clauses 𝓤) (WpFn 𝓤 H C Λ (fn X key)) (λ κs. (ptr-vals, tt))
+          (λ κs. (mut-tells (named 0) (κs .0) (B (κs .1 .0)), tt))
+          (λ κs qs bounds a _ are. via 𝓤 _ (fst∗ 𝓤 _ (emp 𝓤))
+          (walk 𝓤 H A W (κs .0) (κs .1 .0) (qs .0) (qs .1 .0) bounds (a .0 .ptr .0) (a .0 .ptr .1) (a .0 .name) (a .0 .now) C Λ fm known))
 
     pub moves-meets : {M : Type 1} (𝓤 : URA M) (H : Heap 𝓤) (A : Atoms 𝓤) → Given 𝓤 H A → (𝓣 : Tables 𝓤 H) → Triple 𝓤 (𝓣 .C key) (Callee 𝓤 H A)
         → Meets 𝓤 H A sig (WpFn 𝓤 H (𝓣 .C) (𝓣 .Λ) (fn X key)) (closing 𝓤 H A ended (clauses 𝓤))
-    moves-meets 𝓤 H A W 𝓣 known = walk-meets 𝓤 H A ended stayed W (goes-ref 𝓤 H A W 2 0 tt behind, tt) (clauses 𝓤) (WpFn 𝓤 H (𝓣 .C) (𝓣 .Λ) (fn X key)) (WpFn-mono 𝓤 H (W .laws) 𝓣 (fn X key))
+    moves-meets 𝓤 H A W 𝓣 known = walk-meets 𝓤 H A ended stayed W (goes-ref 𝓤 H A W 2 0 tt behind, tt) (clauses 𝓤) (WpFn 𝓤 H (𝓣 .C) (𝓣 .Λ) (fn X key))
+        (WpFn-mono 𝓤 H (W .laws) 𝓣 (fn X key))
         (moves-walks 𝓤 H A W (𝓣 .C) (𝓣 .Λ) (fmOf 𝓤 H (W .laws) 𝓣) known)

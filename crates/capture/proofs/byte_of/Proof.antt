@@ -19,7 +19,11 @@ character-or-zero-requires c κs = search needs
 mul-two : tie.Need-mul-two
 mul-two c = let s = c .before .before in
     let t = true-T _ (s .pre .0) in
-    omega (arith, getD-below 1024 (s .args .characters .now) (omega arith) t (8 * s .args .k / 10), getD-below 1024 (s .args .characters .now) (omega arith) t (8 * s .args .k / 10 + 1))
+    omega (
+      arith,
+      getD-below 1024 (s .args .characters .now) (omega arith) t (8 * s .args .k / 10),
+      getD-below 1024 (s .args .characters .now) (omega arith) t (8 * s .args .k / 10 + 1),
+    )
 
 add-character-or-zero : tie.Need-add-character-or-zero
 add-character-or-zero c = search needs
@@ -30,7 +34,11 @@ character-or-zero-requires-2 c κs = search needs
 add-two : tie.Need-add-two
 add-two c = let s = c .before .before .before in
     let t = true-T _ (s .pre .0) in
-    omega (arith, getD-below 1024 (s .args .characters .now) (omega arith) t (8 * s .args .k / 10), getD-below 1024 (s .args .characters .now) (omega arith) t (8 * s .args .k / 10 + 1))
+    omega (
+      arith,
+      getD-below 1024 (s .args .characters .now) (omega arith) t (8 * s .args .k / 10),
+      getD-below 1024 (s .args .characters .now) (omega arith) t (8 * s .args .k / 10 + 1),
+    )
 
 mul-result : tie.Need-mul-result
 mul-result c = search needs

@@ -27,7 +27,8 @@ cast-t9 : tie.Need-cast-t9
 cast-t9 c = search needs
 
 returns-2 : tie.Need-returns-2
-returns-2 c = ap answered (c .character-of .ensures) ∙ sym (character-found _ _ (sym (c .before .before .before .is-legal .ensures) ∙ not-false _ (c .before .before .if1 .left)) (c .before .if2 .taken))
+returns-2 c = ap answered (c .character-of .ensures)
+    ∙ sym (character-found _ _ (sym (c .before .before .before .is-legal .ensures) ∙ not-false _ (c .before .before .if1 .left)) (c .before .if2 .taken))
 
 returns-3 : tie.Need-returns-3
 returns-3 c = sym (character-nowhere _ _ (sym (c .before .before .is-legal .ensures) ∙ not-false _ (c .before .if1 .left)) (c .if2 .left))

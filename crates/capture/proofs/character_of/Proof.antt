@@ -34,7 +34,8 @@ ten-bits-requires c κs = search needs
 returns : tie.Need-returns
 returns c = let s = c .before .before .before .before in
     c .ten-bits .ensures
-    ∙ sym (character-by-place (s .args .capture .now) (below-at 256 (s .args .capture .now) (λ i. c .before .shared-slice-known3 .given i .fits)) (s .args .i) (s .pre .1))
+    ∙ sym (character-by-place (s .args .capture .now) (below-at 256 (s .args .capture .now) (λ i. c .before .shared-slice-known3 .given i .fits)) (s .args .i)
+    (s .pre .1))
 
 pub character-of-spec : {M : Type 1} → statement M
 character-of-spec =

@@ -30,7 +30,8 @@ add-n c = search needs
 returns-3 : tie.Need-returns-3
 returns-3 c =
     let a = c .before .before .before .before .before .before .args in
-    let p = pack-short-output (a .characters .now) (a .out .now) (omega arith) (sym (c .before .before .in-range .ensures) ∙ not-false _ (c .before .if2 .left)) (omega arith) in
+    let p = pack-short-output (a .characters .now) (a .out .now) (omega arith)
+    (sym (c .before .before .in-range .ensures) ∙ not-false _ (c .before .if2 .left)) (omega arith) in
     (sym (p .answer), sym (p .output))
 
 store-bytes-requires : tie.Need-store-bytes-requires
@@ -43,7 +44,8 @@ returns-4 : tie.Need-returns-4
 returns-4 c =
     let d = c .before .before .before .before in
     let a = d .before .before .before .before .before .before .args in
-    let p = pack-done (a .characters .now) (a .out .now) (omega arith) (sym (d .before .before .in-range .ensures) ∙ not-false _ (d .before .if2 .left)) (omega arith) in
+    let p = pack-done (a .characters .now) (a .out .now) (omega arith) (sym (d .before .before .in-range .ensures) ∙ not-false _ (d .before .if2 .left))
+    (omega arith) in
     (sym (p .answer), c .before .before .store-bytes .ensures ∙ sym (p .output))
 
 pub pack-spec : {M : Type 1} → statement M

@@ -39,7 +39,8 @@ loop-again c = let l = c .before .before .loop in
     let old = s .args .out .now in
     let e = pack-length (s .args .characters .now) in (
       omega arith,
-      ap (λ (v : ℕ). set (l .out) (l .k) v) (c .byte-of .ensures) ∙ ap (λ (x : List ℕ). set x (l .k) (getD result (l .k) 0)) (l .inv .1) ∙ store-next result old 0 (l .k) (omega arith) (omega arith),
+      ap (λ (v : ℕ). set (l .out) (l .k) v) (c .byte-of .ensures) ∙ ap (λ (x : List ℕ). set x (l .k) (getD result (l .k) 0)) (l .inv .1)
+          ∙ store-next result old 0 (l .k) (omega arith) (omega arith),
       simp length-set (l .inv .2),
     )
 

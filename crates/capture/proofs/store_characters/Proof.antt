@@ -67,7 +67,8 @@ returns c = let l = c .before .loop in
     let s = c .before .before .before .before .before .before .before .before in
     let size = characters-length (s .args .capture .now) ∙ sym (s .pre .1) in
     let stored = c .before .before .before .before .store-fours .ensures in
-    all-stored (charactersOf (s .args .capture .now)) (s .args .out .now) (4 * (s .args .n / 4)) (l .i) (s .args .n) _ _ (omega arith) (omega arith) size stored (l .inv .1)
+    all-stored (charactersOf (s .args .capture .now)) (s .args .out .now) (4 * (s .args .n / 4)) (l .i) (s .args .n) _ _ (omega arith)
+    (omega arith) size stored (l .inv .1)
 
 pub store-characters-spec : {M : Type 1} → statement M
 store-characters-spec =

@@ -23,11 +23,16 @@ mul-count c = let h = legal-size _ (true-T _ (sym (c .before .is-legal .ensures)
 
 returns-2 : tie.Need-returns-2
 returns-2 c =
-    let p = unpack-short-output _ (c .before .before .before .before .before .args .out .now) (sym (c .before .before .is-legal .ensures) ∙ not-false _ (c .before .if1 .left)) (c .if2 .taken) in
+    let p = unpack-short-output _ (c .before .before .before .before .before .args .out .now)
+    (sym (c .before .before .is-legal .ensures) ∙ not-false _ (c .before .if1 .left)) (c .if2 .taken) in
     (sym (p .answer), sym (p .output))
 
 store-characters-requires : tie.Need-store-characters-requires
-store-characters-requires c κs = (legal-size _ (true-T _ (sym (c .before .before .before .is-legal .ensures) ∙ not-false _ (c .before .before .if1 .left))), refl, c .before .if2 .left)
+store-characters-requires c κs = (
+  legal-size _ (true-T _ (sym (c .before .before .before .is-legal .ensures) ∙ not-false _ (c .before .before .if1 .left))),
+  refl,
+  c .before .if2 .left,
+)
 
 same-length : tie.Need-same-length
 same-length c = search needs
@@ -35,7 +40,8 @@ same-length c = search needs
 returns-3 : tie.Need-returns-3
 returns-3 c =
     let d = c .before .before .before .before in
-    let p = unpack-done _ (d .before .before .before .before .before .args .out .now) (sym (d .before .before .is-legal .ensures) ∙ not-false _ (d .before .if1 .left)) (d .if2 .left) in
+    let p = unpack-done _ (d .before .before .before .before .before .args .out .now)
+    (sym (d .before .before .is-legal .ensures) ∙ not-false _ (d .before .if1 .left)) (d .if2 .left) in
     (sym (p .answer), c .before .before .store-characters .ensures ∙ sym (p .output))
 
 pub unpack-spec : {M : Type 1} → statement M

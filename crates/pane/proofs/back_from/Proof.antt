@@ -26,19 +26,23 @@ stay-requires-2 : tie.Need-stay-requires-2
 stay-requires-2 c κs = search needs
 
 returns-2 : tie.Need-returns-2
-returns-2 c = c .stay2 .ensures ∙ sym (back-outside _ _ (sym (c .before .before .before .is-legal .ensures) ∙ not-false _ (c .before .before .if1 .left)) (c .before .if2 .taken))
+returns-2 c = c .stay2 .ensures
+    ∙ sym (back-outside _ _ (sym (c .before .before .before .is-legal .ensures) ∙ not-false _ (c .before .before .if1 .left)) (c .before .if2 .taken))
 
 sub-t8 : tie.Need-sub-t8
 sub-t8 c = search needs
 
 returns-3 : tie.Need-returns-3
-returns-3 c = sym (back-moves _ _ (sym (c .before .before .before .is-legal .ensures) ∙ not-false _ (c .before .before .if1 .left)) (c .before .if2 .left) (c .if3 .taken))
+returns-3 c = sym (back-moves _ _ (sym (c .before .before .before .is-legal .ensures) ∙ not-false _ (c .before .before .if1 .left)) (c .before .if2 .left)
+    (c .if3 .taken))
 
 stay-requires-3 : tie.Need-stay-requires-3
 stay-requires-3 c κs = search needs
 
 returns-4 : tie.Need-returns-4
-returns-4 c = c .stay3 .ensures ∙ sym (back-at-start _ _ (sym (c .before .before .before .before .is-legal .ensures) ∙ not-false _ (c .before .before .before .if1 .left)) (c .before .before .if2 .left) (c .before .if3 .left))
+returns-4 c = c .stay3 .ensures
+    ∙ sym (back-at-start _ _ (sym (c .before .before .before .before .is-legal .ensures) ∙ not-false _ (c .before .before .before .if1 .left))
+    (c .before .before .if2 .left) (c .before .if3 .left))
 
 pub back-from-spec : {M : Type 1} → statement M
 back-from-spec = tie.close (tie.spec is-legal-requires stay-requires returns mul-if2 stay-requires-2 returns-2 sub-t8 returns-3 stay-requires-3 returns-4)
