@@ -3,6 +3,7 @@
 
 The settled form: an `ensures { λ r. ⌜ .. ⌝ }` of equations joined by ×, after any `let`: one whose left side is the answer (`r`, or what it says, `..Says r`), and one
 `now (x .exit) ≡ ..` for each parameter x that is lent to be written (`&mut`). Nothing else, so that the answer and all lent memory are said, each once.
+A function that answers nothing and is lent nothing to write needs only its name in that file; every other one a row there with two must-fail edits.
 Fails, naming the function, for each fault. `check.py --self-test` shows that each kind of fault is found.
 """
 import pathlib
@@ -86,6 +87,8 @@ def form(rest):
     """the faults of a function's contract, given its parameters and contract as text"""
     if re.search(r"\brequires\b", rest):
         return ["has a requires"]
+    if not re.search(r"->|&mut\b|\bensures\b", rest):
+        return []  # it answers nothing and is lent nothing to write: there is nothing to promise
     stated = re.search(r"\bensures\s*\{\s*λ (\w+)\.\s*⌜(.*)⌝\s*\}", rest, re.S)
     if not stated:
         return ["has no contract that is one fact of its answer"]
@@ -110,6 +113,18 @@ def form(rest):
     faults += [f"does not say what {x} holds afterwards" for x in lent if x not in said]
     faults += [f"says twice what {x or 'it answers'} is" for x in sorted(set(said), key=str) if said.count(x) > 1]
     return faults
+
+
+def rows(document, labels):
+    """name of a function -> the most edits that a row with that name in its first cell names"""
+    found = {}
+    for line in document.split("\n"):
+        cells = line.split(" | ")
+        if line.startswith("| ") and len(cells) > 1:
+            edits = labels.intersection(re.findall(r"\w+", " ".join(cells[1:])))
+            for name in re.findall(r"\w+", cells[0]):
+                found[name] = max(found.get(name, 0), len(edits))
+    return found
 
 
 def faults_of(crate, name, rest, listed):
@@ -146,12 +161,16 @@ def self_test():
     missed += [w for fault, name, w in WRONG if not any(f.startswith(fault) for f in faults_of("c", name, w, {"f"}))]
     bare_one = "pub fn f(x: u8) -> u8 {\n    x\n}\n\nfn g() -> u8\n    ensures { λ r. ⌜ r ≡ 0 ⌝ }\n{\n    0\n}\n"
     missed += [bare_one] if [faults_of("c", n, r, {"f"}) == [] for _, n, r in heads(bare_one)] != [False] else []
+    table = "| function | x |\n| `f(a)` | `one`, `two` |\n| `g` | `one` |\n"
+    missed += [table] if rows(table, {"one", "two"}) != {"function": 0, "f": 2, "a": 2, "g": 1} else []
     print("\n".join("self-test: not told: " + m for m in missed) if missed else f"contracts: each of {len(WRONG) + 1} wrong contracts is found")
     return 1 if missed else 0
 
 
 def main():
-    listed = set(re.findall(r"\w+", (ROOT / "docs" / "CONTRACTS.md").read_text(encoding="utf-8")))
+    document = (ROOT / "docs" / "CONTRACTS.md").read_text(encoding="utf-8")
+    listed = set(re.findall(r"\w+", document))
+    edits = rows(document, {path.stem for path in ROOT.glob("crates/*/must-fail/*.edit")})
     faults, count, seen = [], 0, set()
     for crate in sorted((ROOT / "crates").iterdir()):
         if (crate / "src" / "main.rt").exists():
@@ -160,6 +179,8 @@ def main():
             count += 1
             seen.add((crate.name, name))
             faults += [f"{source}: {name} {f}" for f in faults_of(crate.name, name, rest, listed)]
+            if name in listed and "ensures" in rest and edits.get(name, 0) < 2:
+                faults.append(f"{source}: {name} has a row with {edits.get(name, 0)} edits, and not two")
     faults += [f"the exception {c}::{n} is no public function" for c, n in EXCEPTIONS if (c, n) not in seen]
     print("\n".join(faults) if faults else f"contracts: {count} public functions, each listed, each one equation of its answer and of each lent thing, none with a requires")
     return 1 if faults or count == 0 else 0
