@@ -68,7 +68,7 @@ static void ours_crc(void) { refused |= buzz_crc16(bytes, LONG, out.bytes); }
 #else
 #define ours_crc 0
 #endif
-static void trusting_crc(void) { plain_crc16(bytes, LONG, out.bytes); }
+static void plain_crc(void) { plain_crc16(bytes, LONG, out.bytes); } /* it refuses nothing */
 
 /* ---- captures ---- */
 
