@@ -88,7 +88,6 @@ static void agree_reader(void) {
   }
 }
 
-#ifdef BUZZ_HAS_READ_CAPTURE
 /* Pieces of the line, some damaged or cut, one after another through readers that go on. */
 static void agree_capture(void) {
   buzz_reader ours;
@@ -107,12 +106,8 @@ static void agree_capture(void) {
     returned();
   }
 }
-#else
-static void agree_capture(void) {}
-#endif
 
 static void agree_crc(void) {
-#ifdef BUZZ_HAS_CRC16
   size_t n = random_below(65);
   lend();
   uint8_t run[64];
@@ -120,7 +115,6 @@ static void agree_crc(void) {
   SAME(buzz_crc16(run, n, o.buffers), 0);
   plain_crc16(run, n, p.buffers);
   returned();
-#endif
 }
 
 /* Both ends of both makes over a line that loses, doubles and damages. */
@@ -155,7 +149,7 @@ static void agree_retry(void) {
       break;
     default:
       number = random_below(3) ? their_receiver.expected : number;
-      SAME(arrival(&receiver, number, channel, mark, segment, n, mark, o.bytes, 7 + mark, &o.a, &o.b, &o.c, &o.d, &o.e, &o.f),
+      SAME(buzz_receiver_arrival(&receiver, number, channel, mark, segment, n, mark, o.bytes, 7 + mark, &o.a, &o.b, &o.c, &o.d, &o.e, &o.f),
            plain_receiver_arrival(&their_receiver, number, channel, mark, segment, n, mark, p.bytes, 7 + mark, &p.a, &p.b, &p.c, &p.d, &p.e, &p.f));
     }
     returned();

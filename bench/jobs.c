@@ -63,12 +63,8 @@ WRITE_DATA(write_8, 8)
 WRITE_DATA(write_1024, 1024)
 WRITE_DATA(write_long, LONG)
 
-#ifdef BUZZ_HAS_CRC16
 static void ours_crc(void) { refused |= buzz_crc16(bytes, LONG, out.bytes); }
-#else
-#define ours_crc 0
-#endif
-static void trusting_crc(void) { plain_crc16(bytes, LONG, out.bytes); }
+static void plain_crc(void) { plain_crc16(bytes, LONG, out.bytes); } /* it refuses nothing */
 
 /* ---- captures ---- */
 
@@ -130,16 +126,12 @@ static void trusting_three(void) {
 }
 
 /* The same in one call. */
-#ifdef BUZZ_HAS_READ_CAPTURE
 static void ours_capture(void) {
   buzz_reader reader;
   out.disparity = -1;
   refused |= buzz_reader_fresh(SIZE, &reader);
   refused |= buzz_read_capture(capture, CAPTURE, &reader, &out.disparity, out.events, LINE, &out.count);
 }
-#else
-#define ours_capture 0
-#endif
 static void promise_capture(void) {
   plain_reader reader;
   out.disparity = -1;

@@ -1,22 +1,6 @@
 /* A retry round: each segment is offered, sent, arrives, is acknowledged and released. One at a time, and with the whole window of eight in flight. */
 #include "plain/plain.h"
 
-#ifdef BUZZ_ARRIVAL_TELLS
-#define arrival buzz_receiver_arrival
-#else
-static inline uint32_t arrival(buzz_receiver *receiver, uint32_t number, uint32_t channel, uint32_t bad, const uint8_t *from, size_t n, uint32_t room,
-                               uint8_t *output, size_t output_length, uint32_t *delivered, uint32_t *delivered_channel, uint32_t *delivered_bad,
-                               uint32_t *delivered_length, uint32_t *nack, uint32_t *reply) {
-  uint32_t refusal = buzz_receiver_arrival(receiver, number, channel, bad, from, n, room, output, output_length, delivered, nack, reply);
-  if (refusal == BUZZ_OK) {
-    *delivered_channel = *delivered ? channel : 0;
-    *delivered_bad = *delivered && bad;
-    *delivered_length = *delivered ? (uint32_t)n : 0;
-  }
-  return refusal;
-}
-#endif
-
 #define MOST 1024 /* the largest S */
 #define SEGMENTS 64
 
@@ -74,7 +58,7 @@ static inline void keep_round(unsigned window) {
     refused |= buzz_sender_fresh(100, S, &sender) | buzz_receiver_fresh(S, &receiver); \
     ROUND(WINDOW, refused |= buzz_sender_offer(&sender, lent.buffers, 8 * S, n & 15, n & 1, segment, S, &number), \
           refused |= buzz_sender_send(&sender, lent.buffers, 8 * S, to, MOST, &f->sent, &f->number, &f->channel, &f->bad, &f->length), \
-          refused |= arrival(&receiver, f->number, f->channel, f->bad, from, f->length, 1, to, MOST, DELIVERED), \
+          refused |= buzz_receiver_arrival(&receiver, f->number, f->channel, f->bad, from, f->length, 1, to, MOST, DELIVERED), \
           refused |= buzz_sender_reply(&sender, f->nack, f->reply)); \
   }
 #define PROMISE(NAME, S, WINDOW) \

@@ -5,7 +5,7 @@
 {"write a data packet of 8 bytes", "packet", {ours_write_8, promise_write_8, trusting_write_8}, 1, 500},
 {"write a data packet of 1,024 bytes", "byte", {ours_write_1024, promise_write_1024, trusting_write_1024}, 1024, 8},
 {"write a data packet of 16,384 bytes", "byte", {ours_write_long, promise_write_long, trusting_write_long}, LONG, 1},
-{"CRC of 16,384 bytes", "byte", {ours_crc, 0, trusting_crc}, LONG, 1},
+{"CRC of 16,384 bytes", "byte", {ours_crc, plain_crc, plain_crc}, LONG, 1},
 {"pack", "character", {ours_pack, promise_pack, trusting_pack}, LINE, 4},
 {"unpack", "character", {ours_unpack, promise_unpack, trusting_unpack}, LINE, 4},
 {"packet reader, a call for each result", "character", {ours_step_each, promise_step_each, trusting_step_each}, LINE, 1},
