@@ -3,8 +3,8 @@ use capture_rules::Answer;
 ghost use mathlib.Core.Path.{_≡_};
 ghost use mathlib.Core.Bool.{true};
 ghost use mathlib.Core.List.{_++_};
-ghost use Prim.Native.Nat.{_≤_, _<_};
-ghost use lib.ListN.{length, getD, drop};
+ghost use Prim.Native.Nat.{_+_, _*_, _/_, _%_, _^_, _≤_, _<_};
+ghost use lib.ListN.{length, getD, take, drop};
 ghost use Rattle.laws.specs.Groups.{allBelow};
 ghost use Rattle.capture_rules.specs.Capture.{characterCount, charactersOf, legal, byteCount, packOf};
 ghost use Rattle.capture_rules.specs.Calls.{says, countSays, characterSays, packSays, packLeaves, unpackSays, unpackLeaves};
@@ -45,14 +45,21 @@ pub fn is_legal(capture: &[u8]) -> bool
     last % (1 << closing) == 0
 }
 
+// Ten of the sixteen bits of two bytes, with so many bits after them.
+fn ten_bits(first: u8, second: u8, after: u32) -> u16
+    requires { ⌜ after < 32 ⌝ }
+    ensures { λ r. ⌜ r ≡ (first * 256 + second) / 2 ^ after % 1024 ⌝ }
+{
+    (((wide8(first) * 256 + wide8(second)) >> after) % 1024) as u16
+}
+
 // The ten bits from bit 10 i on, which lie in two bytes.
 fn character_of(capture: &[u8], i: usize) -> u16
     requires { ⌜ (length (now capture) ≤ 65535) × (i < characterCount (length (now capture))) ⌝ }
     ensures { λ r. ⌜ r ≡ getD (charactersOf (now (capture .entry))) i 0 ⌝ }
 {
     let k = 10 * i / 8;
-    let two = wide8(capture[k]) * 256 + wide8(capture[k + 1]);
-    ((two >> (6 - 10 * i % 8)) % 1024) as u16
+    ten_bits(capture[k], capture[k + 1], (6 - 10 * i % 8) as u32)
 }
 
 // A character, or 0 past the last.
@@ -75,18 +82,17 @@ fn byte_of(characters: &[u16], k: usize) -> u8
     ((two >> (12 - 8 * k % 10)) % 256) as u8
 }
 
-// No character is over 1,023.
+// No character is over 1,023. It goes on after the first that is: a loop with one way out is compiled to eight characters a step.
 fn in_range(characters: &[u16]) -> bool
     ensures { λ r. ⌜ r ≡ allBelow 1024 (now (characters .entry)) ⌝ }
 {
+    let mut good = true;
     let mut i = 0;
     while i < characters.len() {
-        if 1023 < characters[i] {
-            return false;
-        }
+        good = good & (characters[i] < 1024);
         i += 1;
     }
-    true
+    good
 }
 
 fn store_bytes(characters: &[u16], n: usize, out: &mut [u8])
@@ -100,11 +106,36 @@ fn store_bytes(characters: &[u16], n: usize, out: &mut [u8])
     }
 }
 
+// Four characters fill five bytes: so many fours, each read before its first character is stored.
+fn store_fours(capture: &[u8], fours: usize, out: &mut [u16])
+    requires { ⌜ (length (now capture) ≤ 65535) × (4 * fours ≤ characterCount (length (now capture))) × (4 * fours ≤ length (now out)) ⌝ }
+    ensures { λ r. ⌜ now (out .exit) ≡ take (4 * fours) (charactersOf (now (capture .entry))) ++ drop (4 * fours) (now (out .entry)) ⌝ }
+{
+    let mut g = 0;
+    while g < fours {
+        let k = 5 * g;
+        let a = capture[k];
+        let b = capture[k + 1];
+        let c = capture[k + 2];
+        let d = capture[k + 3];
+        let e = capture[k + 4];
+        let i = 4 * g;
+        out[i] = ten_bits(a, b, 6);
+        out[i + 1] = ten_bits(b, c, 4);
+        out[i + 2] = ten_bits(c, d, 2);
+        out[i + 3] = ten_bits(d, e, 0);
+        g += 1;
+    }
+}
+
+// The fours, and then the last 0 to 3 characters.
 fn store_characters(capture: &[u8], n: usize, out: &mut [u16])
     requires { ⌜ (length (now capture) ≤ 65535) × (n ≡ characterCount (length (now capture))) × (n ≤ length (now out)) ⌝ }
     ensures { λ r. ⌜ now (out .exit) ≡ charactersOf (now (capture .entry)) ++ drop n (now (out .entry)) ⌝ }
 {
-    let mut i = 0;
+    let fours = n / 4;
+    store_fours(capture, fours, out);
+    let mut i = 4 * fours;
     while i < n {
         out[i] = character_of(capture, i);
         i += 1;

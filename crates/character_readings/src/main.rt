@@ -1,27 +1,11 @@
 // Reads each of 1,024 characters at both disparities, one at a time; then all of them as one run from -1; then what is out of range.
+use character_print::new_line;
+use character_print::print_name;
+use character_print::print_refusal;
+use character_print::space;
 use character_rules::Decoded;
 use character_rules::RunRead;
 use symbol::Symbol;
-
-fn space() {
-    io::write_all(1, &[b' ']);
-}
-
-fn new_line() {
-    io::write_all(1, &[b'\n']);
-}
-
-// Dx.y or Kx.y
-fn print_name(s: Symbol) {
-    if s.control {
-        io::write_all(1, &[b'K']);
-    } else {
-        io::write_all(1, &[b'D']);
-    }
-    io::print_decimal(1, (s.byte % 32) as u64);
-    io::write_all(1, &[b'.']);
-    io::print_decimal(1, (s.byte / 32) as u64);
-}
 
 fn print_disparity(d: i32) {
     if d == 1 {
@@ -53,17 +37,14 @@ fn print_result(result: Decoded) {
             io::write_all(1, b"invalid ");
             print_disparity(d);
         }
-        Decoded::Refused(number) => {
-            io::write_all(1, b"refused ");
-            io::print_decimal(1, number as u64);
-        }
+        Decoded::Refused(number) => print_refusal(number),
     }
 }
 
 fn print_reading(c: u32, d: i32) {
     io::print_decimal(1, c as u64);
     space();
-    print_result(character::reader::read(c, d));
+    print_result(character_reader::read(c, d));
     new_line();
 }
 
@@ -93,8 +74,8 @@ fn print_end(end: RunRead) {
             print_disparity(d);
         }
         RunRead::Refused(number) => {
-            io::write_all(1, b"run refused ");
-            io::print_decimal(1, number as u64);
+            io::write_all(1, b"run ");
+            print_refusal(number);
         }
     }
     new_line();
@@ -103,7 +84,7 @@ fn print_end(end: RunRead) {
 fn print_results(results: &[u16; 1024]) {
     let mut i = 0usize;
     while i < 1024 {
-        print_result(character::reader::unpack_result(results[i]));
+        print_result(character_reader::unpack_result(results[i]));
         new_line();
         i += 1;
     }
@@ -113,7 +94,7 @@ fn print_results(results: &[u16; 1024]) {
 fn print_long_run() {
     let cs = all_characters();
     let mut results = [0u16; 1024];
-    print_end(character::reader::read_run(&cs, -1, &mut results));
+    print_end(character_reader::read_run(&cs, -1, &mut results));
     print_results(&results);
 }
 
@@ -124,7 +105,7 @@ fn wide(n: u16) -> u64 {
 // A run into an output of three numbers, which stood at 7 8 9; and what the output holds then.
 fn print_short_run(cs: &[u16], d: i32) {
     let mut out = [7u16, 8, 9];
-    print_end(character::reader::read_run(cs, d, &mut out));
+    print_end(character_reader::read_run(cs, d, &mut out));
     io::print_decimal(1, wide(out[0]));
     space();
     io::print_decimal(1, wide(out[1]));

@@ -28,7 +28,7 @@ use Rattle.character_rules.proofs.Steps.{State, next, kept, atEnd, ends
 -- ---- the machine passes the whole line
 
 -- the line of a list that can be written, its first character apart
-line-of : (s : Symbol) (ss : List Symbol) (d : ℤ) → T (canWrite s) → T (isDisparity d) → line writing (s ∷ ss) d ≡ bits 10 (character s d) ++ line writing ss (closing s d)
+pub line-of : (s : Symbol) (ss : List Symbol) (d : ℤ) → T (canWrite s) → T (isDisparity d) → line writing (s ∷ ss) d ≡ bits 10 (character s d) ++ line writing ss (closing s d)
 line-of s ss d h t = ap (λ (w : Writing). tenBits (w .character) ++ line writing ss (newDisparity d (w .disparity))) (writes s d h t)
 
 passes-line : (ss : List Symbol) (d : ℤ) (u : State) → T (allOf canWrite ss) → T (isDisparity d) → T (atEnd d u) → T (passes next kept u (line writing ss d) (λ v. true))

@@ -1,16 +1,12 @@
 // Writes every code group: the name, the octet, and the character that the writer gives at -1 and at +1, in blocks; and what each reads back as.
 // Then what writing each of 256 control bytes is refused with, and what disparities that are none are.
+use character_print::new_line;
+use character_print::print_name;
+use character_print::print_refusal;
+use character_print::space;
 use character_rules::Decoded;
 use character_rules::Encoded;
 use symbol::Symbol;
-
-fn space() {
-    io::write_all(1, &[b' ']);
-}
-
-fn new_line() {
-    io::write_all(1, &[b'\n']);
-}
 
 // The lowest bits of a number, the highest first.
 fn print_bits(n: u16, width: u16) {
@@ -22,23 +18,11 @@ fn print_bits(n: u16, width: u16) {
     }
 }
 
-// Dx.y or Kx.y
-fn print_name(s: Symbol) {
-    if s.control {
-        io::write_all(1, &[b'K']);
-    } else {
-        io::write_all(1, &[b'D']);
-    }
-    io::print_decimal(1, (s.byte % 32) as u64);
-    io::write_all(1, &[b'.']);
-    io::print_decimal(1, (s.byte / 32) as u64);
-}
-
 // The character that reads clean as a symbol at a disparity.
 fn find(s: Symbol, disparity: i32) -> u16 {
     let mut c = 0u16;
     while c < 1023 {
-        if let Decoded::Clean(r, _) = character::reader::read(c as u32, disparity) {
+        if let Decoded::Clean(r, _) = character_reader::read(c as u32, disparity) {
             if r.byte == s.byte && r.control == s.control {
                 return c;
             }
@@ -50,7 +34,7 @@ fn find(s: Symbol, disparity: i32) -> u16 {
 
 // The two blocks of a symbol's code group at a disparity. K28.7 is not written, and is found by reading.
 fn print_column(s: Symbol, disparity: i32) {
-    let c = match character::writer::write(s, disparity) {
+    let c = match character_writer::write(s, disparity) {
         Encoded::Written {
             character,
             disparity: _,
@@ -63,14 +47,9 @@ fn print_column(s: Symbol, disparity: i32) {
     space();
 }
 
-fn print_refusal(number: u8) {
-    io::write_all(1, b"refused ");
-    io::print_decimal(1, number as u64);
-}
-
 // What was written at a disparity, read there again: the name, where it is clean with the closing disparity that the writer gave.
 fn print_back(s: Symbol, disparity: i32) {
-    match character::writer::write(s, disparity) {
+    match character_writer::write(s, disparity) {
         Encoded::Written {
             character,
             disparity: closing,
@@ -80,7 +59,7 @@ fn print_back(s: Symbol, disparity: i32) {
 }
 
 fn print_read(c: u16, disparity: i32, closing: i32) {
-    match character::reader::read(c as u32, disparity) {
+    match character_reader::read(c as u32, disparity) {
         Decoded::Clean(s, after) => {
             if after == closing {
                 print_name(s);
@@ -144,7 +123,7 @@ fn print_controls() {
 }
 
 fn print_asked(s: Symbol, disparity: i32) {
-    match character::writer::write(s, disparity) {
+    match character_writer::write(s, disparity) {
         Encoded::Written {
             character: _,
             disparity: _,

@@ -28,7 +28,7 @@ pub extern "C" fn buzz_write_character(
         byte: byte as u8,
         control: control != 0,
     };
-    let answer = character::writer::write(symbol, *disparity);
+    let answer = character_writer::write(symbol, *disparity);
     match answer {
         Encoded::Written {
             character: c,
@@ -53,7 +53,7 @@ pub extern "C" fn buzz_read_character(
 ) -> u32
     ensures { λ r. ⌜ (r ≡ reading character (now (disparity .entry)) .refusal) × (now (disparity .exit) ≡ orOld (reading character (now (disparity .entry)) .disparity) (now (disparity .entry))) × (now (violation .exit) ≡ afterResult (reading character (now (disparity .entry)) .disparity) (now (violation .entry)) (reading character (now (disparity .entry)) .violation)) × (now (byte .exit) ≡ afterResult (reading character (now (disparity .entry)) .disparity) (now (byte .entry)) (byteIn (reading character (now (disparity .entry)) .symbol))) × (now (control .exit) ≡ afterResult (reading character (now (disparity .entry)) .disparity) (now (control .entry)) (controlIn (reading character (now (disparity .entry)) .symbol))) ⌝ }
 {
-    let answer = character::reader::read(character, *disparity);
+    let answer = character_reader::read(character, *disparity);
     match answer {
         Decoded::Clean(s, d) => {
             *disparity = d;
@@ -89,7 +89,7 @@ pub extern "C" fn buzz_read_characters(
 ) -> u32
     ensures { λ r. ⌜ (r ≡ runReading (now (characters .entry)) (now (disparity .entry)) (length (now (results .entry))) .refusal) × (now (disparity .exit) ≡ orOld (runReading (now (characters .entry)) (now (disparity .entry)) (length (now (results .entry))) .disparity) (now (disparity .entry))) × (now (results .exit) ≡ runOutput (now (characters .entry)) (now (disparity .entry)) (now (results .entry))) ⌝ }
 {
-    let answer = character::reader::read_run(characters, *disparity, results);
+    let answer = character_reader::read_run(characters, *disparity, results);
     match answer {
         RunRead::Read(d) => {
             *disparity = d;

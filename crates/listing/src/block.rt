@@ -46,7 +46,7 @@ fn put_result(result: u16, place: usize, p: Progress, out: &mut [u8]) -> Progres
     ensures { λ r. ⌜ Listed place (result ∷ []) p (now (out .entry)) (now (out .exit)) r × (r .at ≤ p .at + 32) ⌝ }
 {
     let before = p.reader;
-    let s = packet_reader::step(before, character::reader::unpack_result(result));
+    let s = packet_reader::step(before, character_reader::unpack_result(result));
     let event = s.event;
     let reader = s.reader;
     let at = text::put_event(place, event, p.at, out);
@@ -91,7 +91,7 @@ pub(crate) fn next_lines(capture: &[u8], p: Reached, out: &mut [u8]) -> Next
     let mut characters = [0u16; 64];
     let mut results = [0u16; 64];
     take_characters(capture, place, n, &mut characters);
-    match character::reader::read_run(&characters[..n], p.disparity, &mut results) {
+    match character_reader::read_run(&characters[..n], p.disparity, &mut results) {
         RunRead::Read(disparity) => {
             let q = put_results(&results[..n], p, out);
             let reader = q.reader;

@@ -51,7 +51,7 @@ fn keeps_rule(p: Reached) -> bool
     if p.place < p.events {
         return false;
     }
-    if !character::disparity::is_disparity(p.disparity) {
+    if !disparity::is_disparity(p.disparity) {
         return false;
     }
     let reader = p.reader;

@@ -14,6 +14,7 @@ use Rattle.crc.specs.Crc16.{crcStart}
 use Rattle.packet_rules.specs.Symbols.{kindOf, controlKind}
 use Rattle.capture_rules.specs.Capture.{charactersOf, closingBits, legal}
 use Rattle.packet_rules.specs.Answers.{Said, nothing, started, gaveByte, ended, replied, violated}
+use Rattle.segment_size.specs.Sizes.{sizeAllowed}
 use Rattle.packet_rules.specs.State.{wellFormed}
 use Rattle.packet_rules.specs.Violations.{violationOf}
 use Rattle.packet_rules.specs.Step.{broken, dropped, readOf, stepOf}
@@ -23,7 +24,7 @@ use Rattle.listing_rules.specs.Lines.{fieldsOf, eventLine, listed, lines
 
 -- place event detail; 1 violation 9; end 2 1
 pub document-example : listingOf (0x3D ∷ 0x2A ∷ 0xA0 ∷ []) ≡ 112 ∷ 108 ∷ 97 ∷ 99 ∷ 101 ∷ 32 ∷ 101 ∷ 118 ∷ 101 ∷ 110 ∷ 116 ∷ 32 ∷ 100 ∷ 101 ∷ 116 ∷ 97 ∷ 105 ∷ 108 ∷ 10 ∷ 49 ∷ 32 ∷ 118 ∷ 105 ∷ 111 ∷ 108 ∷ 97 ∷ 116 ∷ 105 ∷ 111 ∷ 110 ∷ 32 ∷ 57 ∷ 10 ∷ 101 ∷ 110 ∷ 100 ∷ 32 ∷ 50 ∷ 32 ∷ 49 ∷ 10 ∷ []
-unfolding listingOf legal closingBits charactersOf saidOf readingsOf reading symbols stepOf readOf wellFormed violationOf broken dropped linesFrom eventsIn decimal isTwelve sixBlocks fourBlocks controlFourBlocks sixBlock fourByList fourBlock firstBlock between secondBlock character closing kindOf controlKind crcStart
+unfolding listingOf legal closingBits charactersOf saidOf readingsOf reading symbols stepOf readOf sizeAllowed wellFormed violationOf broken dropped linesFrom eventsIn decimal isTwelve sixBlocks fourBlocks controlFourBlocks sixBlock fourByList fourBlock firstBlock between secondBlock character closing kindOf controlKind crcStart
 document-example = refl
 
 -- place event detail; end 0 0

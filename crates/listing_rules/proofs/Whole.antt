@@ -22,6 +22,7 @@ use Rattle.capture_rules.specs.Capture.{characterCount, charactersOf, legal}
 use Rattle.capture_rules.proofs.Packing.{characters-length, characters-below}
 use Rattle.packet_rules.specs.declared.Reader.{Reader}
 use Rattle.packet_rules.specs.Answers.{Said as EventSaid}
+use Rattle.segment_size.specs.Sizes.{sizeAllowed}
 use Rattle.packet_rules.specs.State.{wellFormed, fresh}
 use Rattle.packet_rules.specs.Step.{stepOf}
 use Rattle.packet_rules.specs.Line.{saidOf, afterOf}
@@ -74,7 +75,7 @@ module _ (cs : List ℕ) (p : Reached) where
       (after-kept (p .reader) (readingsOf cs (p .disparity)) (rule-reader k)))
 
 pub start-kept : keepsRule start ≡ true
-unfolding keepsRule
+unfolding keepsRule sizeAllowed
 start-kept = both-true _ _ refl (both-true _ _ refl (fresh-kept 8 refl))
 
 -- ---- what is left to list from a place on

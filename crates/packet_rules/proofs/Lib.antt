@@ -14,3 +14,4 @@ pub mod Packets
 pub mod Trip
 pub mod Sequences
 pub mod Wrong
+pub mod OnTheLine

@@ -56,24 +56,33 @@ back s p d ok h t =
       closes = k .closes;
     }
 
+-- into an output that is long enough: what it leaves there, and what it answers
+pub leaves-all : (s : ℕ) (p : Packet) (d : ℤ) (out : List ℕ) → sizeAllowed s ≡ true → Allowed s p → T (isDisparity d) → length (symbolsOf p) ≤ length out
+    → take (length (symbolsOf p)) (packetOutput s p d out) ≡ charactersOf (symbolsOf p) d
+unfolding packetOutput
+leaves-all s p d out ok h t l =
+    let n = length (symbolsOf p) in
+    let ch = charactersOf (symbolsOf p) d in
+    let cs = packetChecks s p d (length out) in
+    ap (take n) (done cs (λ m. out) (ch ++ drop n out) (accepted s p d (length out) ok h t l))
+    ∙ take-at ch (drop n out) n (length-characters (symbolsOf p) d)
+
+pub answers-closing : (s : ℕ) (p : Packet) (d : ℤ) (out : List ℕ) → sizeAllowed s ≡ true → Allowed s p → T (isDisparity d) → length (symbolsOf p) ≤ length out
+    → packetWriting s p d out ≡ wrote (length (symbolsOf p)) (closingOf (symbolsOf p) d)
+unfolding packetWriting
+answers-closing s p d out ok h t l =
+    done (packetChecks s p d (length out)) notWrote (wrote (length (symbolsOf p)) (closingOf (symbolsOf p) d)) (accepted s p d (length out) ok h t l)
+
 -- THE ROUND TRIP
 pub packet-round-trip : PacketRoundTrip theReader theWriter
-unfolding packetWriting packetOutput
 packet-round-trip =
     record {
       written = λ s p d out ok h t l.
-          let n = length (symbolsOf p) in
-          let cs = packetChecks s p d (length out) in
-          let zero = accepted s p d (length out) ok h t l in
-          let ch = charactersOf (symbolsOf p) d in
-          let e = closingOf (symbolsOf p) d in
-          let out1 : packetOutput s p d out ≡ ch ++ drop n out = done cs (λ m. out) (ch ++ drop n out) zero in
-          let taken : take n (packetOutput s p d out) ≡ ch =
-          ap (take n) out1 ∙ take-at ch (drop n out) n (length-characters (symbolsOf p) d) in (
+          let e = closingOf (symbolsOf p) d in (
             e,
             closing-is (symbolsOf p) d t,
-            done cs notWrote (wrote n e) zero,
-            subst (λ (c : List ℕ). ReadBack theReader s p d e c) (sym taken) (back s p d ok h t),
+            answers-closing s p d out ok h t l,
+            subst (λ (c : List ℕ). ReadBack theReader s p d e c) (sym (leaves-all s p d out ok h t l)) (back s p d ok h t),
           );
     }
 

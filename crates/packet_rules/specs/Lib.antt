@@ -7,3 +7,4 @@ pub mod Line
 pub mod History
 pub mod Packets
 pub mod RoundTrip
+pub mod OnTheLine

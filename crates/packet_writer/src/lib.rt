@@ -36,7 +36,7 @@ fn put(out: &mut [u16], p: Place, s: Symbol) -> Place
     ensures { λ r. ⌜ Wrote p (s ∷ []) (now (out .entry)) (now (out .exit)) r ⌝ }
 {
     let at = p.at;
-    let written = character::writer::write(s, p.disparity);
+    let written = character_writer::write(s, p.disparity);
     match written {
         Encoded::Written {
             character,
@@ -120,7 +120,7 @@ pub fn write_data(channel: u32, bytes: &[u8], bad: bool, disparity: i32, out: &m
     ensures { λ r. ⌜ (writtenSays r ≡ packetWriting 0 (inData channel (now (bytes .entry)) bad) disparity (now (out .entry)))
         × (now (out .exit) ≡ packetOutput 0 (inData channel (now (bytes .entry)) bad) disparity (now (out .entry))) ⌝ }
 {
-    if !character::disparity::is_disparity(disparity) {
+    if !disparity::is_disparity(disparity) {
         return Written::Refused(refusal::OUT_OF_RANGE);
     }
     if 255 < channel {
@@ -154,7 +154,7 @@ pub fn write_priority(
     ensures { λ r. ⌜ (writtenSays r ≡ packetWriting size (inPriority channel segment (now (bytes .entry)) bad) disparity (now (out .entry)))
         × (now (out .exit) ≡ packetOutput size (inPriority channel segment (now (bytes .entry)) bad) disparity (now (out .entry))) ⌝ }
 {
-    if !character::disparity::is_disparity(disparity) {
+    if !disparity::is_disparity(disparity) {
         return Written::Refused(refusal::OUT_OF_RANGE);
     }
     if 15 < channel {
@@ -196,7 +196,7 @@ pub fn write_lmp(nack: bool, number: u32, disparity: i32, out: &mut [u16]) -> Wr
     ensures { λ r. ⌜ (writtenSays r ≡ packetWriting 0 (retry nack number) disparity (now (out .entry)))
         × (now (out .exit) ≡ packetOutput 0 (retry nack number) disparity (now (out .entry))) ⌝ }
 {
-    if !character::disparity::is_disparity(disparity) {
+    if !disparity::is_disparity(disparity) {
         return Written::Refused(refusal::OUT_OF_RANGE);
     }
     if 15 < number {

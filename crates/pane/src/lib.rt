@@ -100,7 +100,9 @@ pub fn here<'a>(pane: Pane<'a>) -> Answer
 
 // Moves the pane forward, and says what came of it.
 pub fn forward<'s, 'a>(pane: &'s mut Pane<'a>) -> Move
-    ensures { λ r. ⌜ (r ≡ forwardFrom (now (now (pane .entry) .capture)) (now (pane .entry) .place)) × (now (pane .exit) .capture ≡ now (pane .entry) .capture) × (now (pane .exit) .place ≡ forwardFrom (now (now (pane .entry) .capture)) (now (pane .entry) .place) .place) ⌝ }
+    ensures { λ r. ⌜ (r ≡ forwardFrom (now (now (pane .entry) .capture)) (now (pane .entry) .place))
+        × (now (pane .exit) .capture ≡ now (pane .entry) .capture)
+        × (now (pane .exit) .place ≡ forwardFrom (now (now (pane .entry) .capture)) (now (pane .entry) .place) .place) ⌝ }
 {
     let m = forward_from(pane.capture, pane.place);
     pane.place = m.place;
@@ -109,7 +111,9 @@ pub fn forward<'s, 'a>(pane: &'s mut Pane<'a>) -> Move
 
 // Moves the pane back, and says what came of it.
 pub fn back<'s, 'a>(pane: &'s mut Pane<'a>) -> Move
-    ensures { λ r. ⌜ (r ≡ backFrom (now (now (pane .entry) .capture)) (now (pane .entry) .place)) × (now (pane .exit) .capture ≡ now (pane .entry) .capture) × (now (pane .exit) .place ≡ backFrom (now (now (pane .entry) .capture)) (now (pane .entry) .place) .place) ⌝ }
+    ensures { λ r. ⌜ (r ≡ backFrom (now (now (pane .entry) .capture)) (now (pane .entry) .place))
+        × (now (pane .exit) .capture ≡ now (pane .entry) .capture)
+        × (now (pane .exit) .place ≡ backFrom (now (now (pane .entry) .capture)) (now (pane .entry) .place) .place) ⌝ }
 {
     let m = back_from(pane.capture, pane.place);
     pane.place = m.place;

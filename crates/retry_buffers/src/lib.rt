@@ -90,7 +90,8 @@ fn stored_in(sender: Sender, channel: u8, bad: bool, length: u16) -> Sender
 
 // An offer: a segment is stored, if there is a free buffer, and gets the number after the last stored one.
 pub fn offer(sender: Sender, buffers: &mut [u8], channel: u32, bad: bool, bytes: &[u8]) -> Offered
-    ensures { λ r. ⌜ (r ≡ offerOf sender (length (now (buffers .entry))) channel bad (length (now (bytes .entry)))) × (now (buffers .exit) ≡ offerBuffers sender (now (buffers .entry)) channel (now (bytes .entry))) ⌝ }
+    ensures { λ r. ⌜ (r ≡ offerOf sender (length (now (buffers .entry))) channel bad (length (now (bytes .entry))))
+        × (now (buffers .exit) ≡ offerBuffers sender (now (buffers .entry)) channel (now (bytes .entry))) ⌝ }
 {
     let refusal = offer_refusal(sender, buffers.len(), channel, bytes.len());
     if refusal != 0 {
@@ -211,7 +212,8 @@ fn due_sent(sender: Sender) -> Sent
 
 // A send: the segment at the send point goes out, its bytes into `output`, and the send point moves on.
 pub fn send(sender: Sender, buffers: &[u8], output: &mut [u8]) -> Sent
-    ensures { λ r. ⌜ (r ≡ sendOf sender (length (now (buffers .entry))) (length (now (output .entry)))) × (now (output .exit) ≡ sendOutput sender (now (buffers .entry)) (now (output .entry))) ⌝ }
+    ensures { λ r. ⌜ (r ≡ sendOf sender (length (now (buffers .entry))) (length (now (output .entry))))
+        × (now (output .exit) ≡ sendOutput sender (now (buffers .entry)) (now (output .entry))) ⌝ }
 {
     let refusal = send_refusal(sender, buffers.len(), output.len());
     if refusal != 0 {

@@ -69,7 +69,9 @@ pub fn offer_in_place(
     bad: bool,
     bytes: &[u8],
 ) -> OfferAnswer
-    ensures { λ r. ⌜ (r ≡ offerBeside (offerOf (now (sender .entry)) (length (now (buffers .entry))) channel bad (length (now (bytes .entry))))) × (now (sender .exit) ≡ offerOf (now (sender .entry)) (length (now (buffers .entry))) channel bad (length (now (bytes .entry))) .sender) × (now (buffers .exit) ≡ offerBuffers (now (sender .entry)) (now (buffers .entry)) channel (now (bytes .entry))) ⌝ }
+    ensures { λ r. ⌜ (r ≡ offerBeside (offerOf (now (sender .entry)) (length (now (buffers .entry))) channel bad (length (now (bytes .entry)))))
+        × (now (sender .exit) ≡ offerOf (now (sender .entry)) (length (now (buffers .entry))) channel bad (length (now (bytes .entry))) .sender)
+        × (now (buffers .exit) ≡ offerBuffers (now (sender .entry)) (now (buffers .entry)) channel (now (bytes .entry))) ⌝ }
 {
     let offered = retry_buffers::offer(*sender, buffers, channel, bad, bytes);
     *sender = offered.sender;
@@ -80,7 +82,9 @@ pub fn offer_in_place(
 }
 
 pub fn send_in_place(sender: &mut Sender, buffers: &[u8], output: &mut [u8]) -> SendAnswer
-    ensures { λ r. ⌜ (r ≡ sendBeside (sendOf (now (sender .entry)) (length (now (buffers .entry))) (length (now (output .entry))))) × (now (sender .exit) ≡ sendOf (now (sender .entry)) (length (now (buffers .entry))) (length (now (output .entry))) .sender) × (now (output .exit) ≡ sendOutput (now (sender .entry)) (now (buffers .entry)) (now (output .entry))) ⌝ }
+    ensures { λ r. ⌜ (r ≡ sendBeside (sendOf (now (sender .entry)) (length (now (buffers .entry))) (length (now (output .entry)))))
+        × (now (sender .exit) ≡ sendOf (now (sender .entry)) (length (now (buffers .entry))) (length (now (output .entry))) .sender)
+        × (now (output .exit) ≡ sendOutput (now (sender .entry)) (now (buffers .entry)) (now (output .entry))) ⌝ }
 {
     let sent = retry_buffers::send(*sender, buffers, output);
     *sender = sent.sender;

@@ -165,7 +165,8 @@ pub fn arrival(
     room: bool,
     output: &mut [u8],
 ) -> Arrived
-    ensures { λ r. ⌜ (r ≡ arrivalOf receiver number channel bad (length (now (bytes .entry))) room (length (now (output .entry)))) × (now (output .exit) ≡ arrivalOutput receiver number channel (now (bytes .entry)) room (now (output .entry))) ⌝ }
+    ensures { λ r. ⌜ (r ≡ arrivalOf receiver number channel bad (length (now (bytes .entry))) room (length (now (output .entry))))
+        × (now (output .exit) ≡ arrivalOutput receiver number channel (now (bytes .entry)) room (now (output .entry))) ⌝ }
 {
     let refusal = arrival_refusal(receiver, number, channel, bytes.len(), room, output.len());
     if refusal != 0 {

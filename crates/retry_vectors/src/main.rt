@@ -3,14 +3,13 @@
 use retry_replies::replies;
 use retry_replies::timer;
 use retry_rules::Arrived;
-use retry_rules::Counters;
 use retry_rules::Receiver;
 use retry_rules::Sender;
-use retry_rules::Slots;
 use retry_state::beginning;
 
 mod print;
 mod script;
+mod settings;
 
 use crate::print::line_end;
 use crate::print::mark;
@@ -24,6 +23,8 @@ use crate::script::clamped;
 use crate::script::field;
 use crate::script::flag;
 use crate::script::wide;
+use crate::settings::set_receiver;
+use crate::settings::set_sender;
 ghost use Prim.Native.Nat.{_≤_};
 ghost use lib.ListN.{length};
 
@@ -165,75 +166,6 @@ fn damaged_arrival(given: Receiver) -> Receiver {
     word(b"damaged-arrival");
     print_arrived(a);
     a.receiver
-}
-
-// The counters with one of them set, and a slot's length or channel: a state that may break its rule.
-fn with_counter(c: Counters, which: u8, to: u32) -> Counters {
-    let mut d = c;
-    let small = (to % 256) as u8;
-    let wide = (to % 65536) as u16;
-    match which {
-        0 => d.oldest = small,
-        1 => d.stored = small,
-        2 => d.outstanding = small,
-        3 => d.point = small,
-        4 => d.released = small,
-        5 => d.timer = wide,
-        6 => d.expiries = small,
-        7 => d.columns = wide,
-        8 => d.size = wide,
-        _ => d.link = small,
-    }
-    d
-}
-
-fn with_slot(slots: Slots, channel: bool, slot: usize, to: u32) -> Slots {
-    let mut lengths = slots.lengths;
-    let mut channels = slots.channels;
-    let bad = slots.bad;
-    if slot < 8 {
-        if channel {
-            channels[slot] = (to % 256) as u8;
-        } else {
-            lengths[slot] = (to % 65536) as u16;
-        }
-    }
-    Slots {
-        lengths,
-        channels,
-        bad,
-    }
-}
-
-fn set_sender(call: &[u8], sender: Sender) -> Sender {
-    word(b"set-sender");
-    let to = field(call, 1);
-    let which = byte(call, 2);
-    let counters = sender.counters;
-    let slots = sender.slots;
-    if which < 10 {
-        return Sender {
-            counters: with_counter(counters, which, to),
-            slots,
-        };
-    }
-    let slot = clamped(field(call, 0), 8);
-    Sender {
-        counters,
-        slots: with_slot(slots, which == 10, slot, to),
-    }
-}
-
-fn set_receiver(call: &[u8], given: Receiver) -> Receiver {
-    word(b"set-receiver");
-    let to = field(call, 1);
-    let mut r = given;
-    match byte(call, 2) {
-        0 => r.expected = (to % 256) as u8,
-        1 => r.received = (to % 256) as u8,
-        _ => r.size = (to % 65536) as u16,
-    }
-    r
 }
 
 fn sender_call(

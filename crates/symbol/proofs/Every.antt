@@ -10,7 +10,9 @@ use Rattle.symbol.specs.Symbols.{twelve, isTwelve, dataSymbol, controlSy
 use Rattle.symbol.specs.declared.Symbol.{Symbol}
 
 -- of the 256 of data and the twelve of control
-pub every-symbol : (f : Symbol → Bool) → T (every (λ b x. f (dataSymbol b)) 0 (countFrom 0 256)) → T (allOf (λ b. f (controlSymbol b)) twelve) → (s : Symbol) → s .byte < 256 → T (isSymbol s) → T (f s)
+pub every-symbol :
+    (f : Symbol → Bool) → T (every (λ b x. f (dataSymbol b)) 0 (countFrom 0 256)) → T (allOf (λ b. f (controlSymbol b)) twelve)
+    → (s : Symbol) → s .byte < 256 → T (isSymbol s) → T (f s)
 unfolding isTwelve
 every-symbol f t u s h i = go (s .byte) (s .control) h i
   where

@@ -167,13 +167,13 @@ impl Symbol {
         ensures { λ r. ⌜ r ≡ isWritable self ⌝ }
     {
         let byte = self.byte;
-        if self.control {
-            if byte == Symbol::K28_7_BYTE {
-                return false;
-            }
-            return is_twelve(byte);
+        if !self.control {
+            return true;
         }
-        true
+        if byte == Symbol::K28_7_BYTE {
+            return false;
+        }
+        is_twelve(byte)
     }
 
     // Opens a data packet or a priority packet.

@@ -1,73 +1,51 @@
 -- A character from its two bytes: the law by place.
 -- Assumes nothing.
 use borrow.Author.Needs.{needs}
-use mathlib.Core.Path.{sym, ap₂, _∙_}
-use Prim.Native.Nat.{ℕ, _+_, _-_, _*_, _/_, _%_, _^_}
+use mathlib.Core.Path.{sym, _∙_}
 use Rattle.laws.proofs.Groups.{below-at}
 use Rattle.capture_rules.proofs.Places.{character-by-place}
-use native.Mathlib.Omega.{arith}
 use Rattle.capture.proofs.character_of.Statement.{statement}
 use Rattle.capture.proofs.character_of.Tie as tie
 
 mul-k : tie.Need-mul-k
 mul-k c = search needs
 
-shared-slice-read-wide8 : tie.Need-shared-slice-read-wide8
-shared-slice-read-wide8 c = search needs
+shared-slice-read-ten-bits : tie.Need-shared-slice-read-ten-bits
+shared-slice-read-ten-bits c = search needs
 
-wide8-requires : tie.Need-wide8-requires
-wide8-requires c κs = search needs
+add-ten-bits : tie.Need-add-ten-bits
+add-ten-bits c = search needs
 
-mul-two : tie.Need-mul-two
-mul-two c = let a = c .before .before .before .args in omega (arith, c .before .shared-slice-known2 .given (10 * a .i / 8), c .before .shared-slice-known2 .given (10 * a .i / 8 + 1))
+shared-slice-read-ten-bits-2 : tie.Need-shared-slice-read-ten-bits-2
+shared-slice-read-ten-bits-2 c = search needs
 
-add-wide8 : tie.Need-add-wide8
-add-wide8 c = search needs
+mul-ten-bits : tie.Need-mul-ten-bits
+mul-ten-bits c = search needs
 
-shared-slice-read-wide8-2 : tie.Need-shared-slice-read-wide8-2
-shared-slice-read-wide8-2 c = search needs
+sub-ten-bits : tie.Need-sub-ten-bits
+sub-ten-bits c = search needs
 
-wide8-requires-2 : tie.Need-wide8-requires-2
-wide8-requires-2 c κs = search needs
+cast-ten-bits : tie.Need-cast-ten-bits
+cast-ten-bits c = search needs
 
-add-two : tie.Need-add-two
-add-two c = let a = c .before .before .before .before .before .args in omega (arith, c .before .shared-slice-known3 .given (10 * a .i / 8), c .before .shared-slice-known3 .given (10 * a .i / 8 + 1))
-
-mul-result : tie.Need-mul-result
-mul-result c = search needs
-
-sub-result : tie.Need-sub-result
-sub-result c = search needs
-
-cast-result : tie.Need-cast-result
-cast-result c = search needs
-
-shr-result : tie.Need-shr-result
-shr-result c = search needs
-
-cast-result-2 : tie.Need-cast-result-2
-cast-result-2 c = search needs
+ten-bits-requires : tie.Need-ten-bits-requires
+ten-bits-requires c κs = search needs
 
 returns : tie.Need-returns
-returns c = let a = c .before .before .before .before .before .args in
-    ap₂ (λ (x y : ℕ). (x * 256 + y) / 2 ^ (6 - 10 * a .i % 8) % 1024) (c .before .before .wide8 .ensures) (c .wide82 .ensures)
-    ∙ sym (character-by-place (a .capture .now) (below-at 256 (a .capture .now) (λ i. c .before .shared-slice-known3 .given i .fits)) (a .i) (c .before .before .before .before .before .pre .1))
+returns c = let s = c .before .before .before .before in
+    c .ten-bits .ensures
+    ∙ sym (character-by-place (s .args .capture .now) (below-at 256 (s .args .capture .now) (λ i. c .before .shared-slice-known3 .given i .fits)) (s .args .i) (s .pre .1))
 
 pub character-of-spec : {M : Type 1} → statement M
 character-of-spec =
     tie.close
     (tie.spec
     mul-k
-    shared-slice-read-wide8
-    wide8-requires
-    mul-two
-    add-wide8
-    shared-slice-read-wide8-2
-    wide8-requires-2
-    add-two
-    mul-result
-    sub-result
-    cast-result
-    shr-result
-    cast-result-2
+    shared-slice-read-ten-bits
+    add-ten-bits
+    shared-slice-read-ten-bits-2
+    mul-ten-bits
+    sub-ten-bits
+    cast-ten-bits
+    ten-bits-requires
     returns)

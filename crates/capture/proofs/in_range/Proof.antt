@@ -1,38 +1,37 @@
--- The loop keeps: what is left is in range exactly if the whole is.
+-- The loop keeps: what was looked at and what is left are in range exactly if the whole is.
 -- Assumes nothing.
 use mathlib.Core.Path.{_≡_, refl, ap, sym, _∙_}
-use mathlib.Core.Bool.{Bool, _&&_}
+use mathlib.Core.Bool.{Bool, true, false, _&&_}
+use mathlib.Core.List.{List}
 use Prim.Native.Nat.{ℕ, _≤_, _-_, _+_}
 use native.Mathlib.Omega.{arith}
 use lib.Dec.{ltb}
 use lib.ListN.{length, drop, getD, drop-of-length-le}
-use borrow.Author.Tests.{lt-ltb, le-ltb}
 use Rattle.laws.specs.Groups.{allBelow}
 use Rattle.laws.proofs.Groups.{all-from}
+use Rattle.capture.proofs.Facts.{and-and}
 use Rattle.capture.proofs.in_range.Statement.{statement}
 use Rattle.capture.proofs.in_range.Tie as tie
 
 abbrev Inv-loop : tie.InvT-loop
-Inv-loop characters i₀ i = (i ≤ length characters) × (allBelow 1024 (drop i characters) ≡ allBelow 1024 characters)
+Inv-loop characters good₀ i₀ good i = (i ≤ length characters) × ((good && allBelow 1024 (drop i characters)) ≡ allBelow 1024 characters)
 
 abbrev μ-loop : tie.MeasureT-loop
-μ-loop characters i₀ i = length characters - i
+μ-loop characters good₀ i₀ good i = length characters - i
+
+-- nothing is left
+and-true : (b : Bool) → b ≡ b && true
+and-true true = refl
+and-true false = refl
 
 loop-holds : tie.Need-loop-holds Inv-loop μ-loop
 loop-holds c = (omega arith, refl)
 
-mul-if1 : tie.Need-mul-if1 Inv-loop μ-loop
-mul-if1 c = omega arith
+mul-good : tie.Need-mul-good Inv-loop μ-loop
+mul-good c = omega arith
 
-shared-slice-read-if1 : tie.Need-shared-slice-read-if1 Inv-loop μ-loop
-shared-slice-read-if1 c = omega arith
-
-returns : tie.Need-returns Inv-loop μ-loop
-returns c = let xs = c .before .before .before .before .args .characters .now in
-    let l = c .before .before .before .loop in
-    sym (ap (λ (b : Bool). b && allBelow 1024 (drop (l .i + 1) xs)) (le-ltb (getD xs (l .i) 0) 1024 (omega arith)))
-    ∙ sym (all-from (λ (n : ℕ). ltb n 1024) 0 (l .i) xs (c .before .before .loop-test .taken))
-    ∙ l .inv .1
+shared-slice-read-good : tie.Need-shared-slice-read-good Inv-loop μ-loop
+shared-slice-read-good c = omega arith
 
 add-i : tie.Need-add-i Inv-loop μ-loop
 add-i c = omega arith
@@ -41,14 +40,17 @@ loop-less : tie.Need-loop-less Inv-loop μ-loop
 loop-less c = omega arith
 
 loop-again : tie.Need-loop-again Inv-loop μ-loop
-loop-again c = let xs = c .before .before .before .before .args .characters .now in
-    let l = c .before .before .before .loop in
-    let x : ltb (getD xs (l .i) 0) 1024 ≡ _ = lt-ltb (getD xs (l .i) 0) 1024 (omega arith) in
-    (omega arith, sym (ap (λ (b : Bool). b && allBelow 1024 (drop (l .i + 1) xs)) x) ∙ sym (all-from (λ (n : ℕ). ltb n 1024) 0 (l .i) xs (c .before .before .loop-test .taken)) ∙ l .inv .1)
+loop-again c = let xs = c .before .before .before .args .characters .now in
+    let l = c .before .before .loop in (
+      omega arith,
+      and-and (l .good) (ltb (getD xs (l .i) 0) 1024) (allBelow 1024 (drop (l .i + 1) xs))
+          ∙ ap (λ (b : Bool). l .good && b) (sym (all-from (λ (n : ℕ). ltb n 1024) 0 (l .i) xs (c .before .loop-test .taken)))
+          ∙ l .inv .1,
+    )
 
-returns-2 : tie.Need-returns-2 Inv-loop μ-loop
-returns-2 c = let xs = c .before .before .args .characters .now in
-    ap (allBelow 1024) (sym (drop-of-length-le xs (c .loop-test .left))) ∙ c .before .loop .inv .1
+returns : tie.Need-returns Inv-loop μ-loop
+returns c = let xs = c .before .before .args .characters .now in
+    and-true _ ∙ ap (λ (ns : List ℕ). c .before .loop .good && allBelow 1024 ns) (sym (drop-of-length-le xs (c .loop-test .left))) ∙ c .before .loop .inv .1
 
 pub in-range-spec : {M : Type 1} → statement M
 in-range-spec =
@@ -57,10 +59,9 @@ in-range-spec =
     Inv-loop
     μ-loop
     loop-holds
-    mul-if1
-    shared-slice-read-if1
-    returns
+    mul-good
+    shared-slice-read-good
     add-i
     loop-less
     loop-again
-    returns-2)
+    returns)

@@ -1,4 +1,5 @@
--- `tick_in_place` meets its contract: a walk of its MIR, by hand. The borrow is opened, the sender is copied out of it, `retry_replies::timer::tick` is called on the copy,
+-- `tick_in_place` meets its contract: a walk of its MIR, by hand. The borrow is opened, the sender is copied out of it, `retry_replies::timer::tick` is
+-- called on the copy,
 -- the sender of the answer is stored behind the reference, and the borrow is closed at it. All that the proof knows of the call is its contract.
 -- Assumes nothing.
 use mathlib.Core.Path.{_≡_, refl, ap}
@@ -16,8 +17,10 @@ use prog.Wp.{Heap, Calls, Loops, WpFn, Tables}
 use ghost.Atoms.{Atoms, sem}
 use contract.Monad.{Fun, fact}
 use contract.Running.{givenOf, tables, tablesOf}
-use types.Kit.{Given, ‵, raw, _⊛_, some, later, _$_, _∵_, !, qed, by, move, keep, drop, use1, split, join, pick, rewrite, fsplit, fsplit3, fjoin, fjoin3, feqI, suffices, frame, await, done}
-use types.Run.{look, init, store, forget, stop, hop, fld, from, load, of-opd, and-then, no-more, assigns, land, returns, enter, alloc1, alloc0, params1, pass1, pass0, free1, free0}
+use types.Kit.{Given, ‵, raw, _⊛_, some, later, _$_, _∵_, !, qed, by, move, keep, drop}
+use types.Kit.{use1, split, join, pick, rewrite, fsplit, fsplit3, fjoin, fjoin3, feqI, suffices, frame, await, done}
+use types.Run.{look, init, store, forget, stop, hop, fld, from, load, of-opd, and-then, no-more}
+use types.Run.{assigns, land, returns, enter, alloc1, alloc0, params1, pass1, pass0, free1, free0}
 use types.Part.{whole, sub, look-in, agg}
 use types.SemTy.{Body}
 use sound.WpLaws.{FmC, fmOf, WpFn-mono}
@@ -66,7 +69,8 @@ module _ {M : Type 1} (𝓤 : URA M) (H : Heap 𝓤) (A : Atoms 𝓤) (at-mem : 
   abbrev Callee : Contract 𝓤
   Callee = tripleOf 𝓤 H A callee.signature (callee.spec 𝓤 H A at-mem run)
 
-module _ {M : Type 1} (𝓤 : URA M) (H : Heap 𝓤) (A : Atoms 𝓤) (W : Given 𝓤 H A) (at-mem : Memory → SProp 𝓤) (run : Routine → Fun 𝓤) (κ : Lft) (q : Share) (b o : ℕ) (γ : GName) (h : Sender) where
+module _ {M : Type 1} (𝓤 : URA M) (H : Heap 𝓤) (A : Atoms 𝓤) (W : Given 𝓤 H A) (at-mem : Memory → SProp 𝓤) (run : Routine → Fun 𝓤) (κ : Lft) (q : Share)
+    (b o : ℕ) (γ : GName) (h : Sender) where
   abbrev x : Arg
   x = (record { ptr = (b, o); name = γ; now = h }, tt)
 
@@ -99,10 +103,13 @@ module _ {M : Type 1} (𝓤 : URA M) (H : Heap 𝓤) (A : Atoms 𝓤) (W : Given
   said : (r : Ticked) → ent 𝓤 (ensured 𝓤 H A callee.ended (callee.clauses 𝓤 H A at-mem run) tt (h, tt) tt r) (fact 𝓤 (r ≡ tickOf h))
   said r = exE 𝓤 _ (λ ws. snd∗ 𝓤 (sem 𝓤 H A (lasts callee.ended tt (h, tt) ws)) (fact 𝓤 (r ≡ tickOf h)))
 
-  exits : (r : Ticked) → r ≡ tickOf h → Is U.the-row (tickBeside r) (LL.vals U.the-type U′.the-laws (tickBeside r)) → ent 𝓤 (sep 𝓤 (A .obs γ (T.the-row .coded .code (r .sender))) (sep 𝓤 (A .bor κ (Body (mem T.the-row) b o γ)) (A .lft κ q))) (Post (LL.val U.the-type U′.the-laws (tickBeside r)))
+  exits : (r : Ticked) → r ≡ tickOf h → Is U.the-row (tickBeside r) (LL.vals U.the-type U′.the-laws (tickBeside r))
+      → ent 𝓤 (sep 𝓤 (A .obs γ (T.the-row .coded .code (r .sender))) (sep 𝓤 (A .bor κ (Body (mem T.the-row) b o γ)) (A .lft κ q)))
+      (Post (LL.val U.the-type U′.the-laws (tickBeside r)))
   exits r e told =
       qed W (‵ (fobs γ (T.the-row .coded .code (r .sender))) ∷ ‵ (fbor κ (Body (mem T.the-row) b o γ)) ∷ ‵ (flft κ q) ∷ []) ∵
-      suffices ! _ (ends-at 𝓤 H A thin.ended stayed (thin.clauses 𝓤 H A at-mem run) W (((κ, tt), (q, tt), tt, x, at), tt) (LL.val U.the-type U′.the-laws (tickBeside r)) (tickBeside r) (r .sender, tt) (tt, tt)) $
+      suffices ! _ (ends-at 𝓤 H A thin.ended stayed (thin.clauses 𝓤 H A at-mem run) W (((κ, tt), (q, tt), tt, x, at), tt)
+      (LL.val U.the-type U′.the-laws (tickBeside r)) (tickBeside r) (r .sender, tt) (tt, tt)) $
       says ! (ap tickBeside e, ap (λ (a : Ticked). a .sender) e) $ nothing ! $ move ! (3 ∷ 0 ∷ []) $ join ! $
       frame ! $ feqI ! (List Val) (vptr b o ∷ []) (vptr b o ∷ []) refl $ fjoin3 ! $ nothing ! $ move ! (1 ∷ 0 ∷ []) $ fjoin ! $
       owned ! U.the-row (Is U.the-row) ((LL.makes U.the-type U′.the-plain) 𝓤 H A) (tickBeside r) _ told $ move ! (1 ∷ 0 ∷ []) $ done !
@@ -113,41 +120,53 @@ module _ {M : Type 1} (𝓤 : URA M) (H : Heap 𝓤) (A : Atoms 𝓤) (W : Given
         qed W ((‵ (flft κ q) ⊛ ‵ ftrue) ∷ ‵ (owns (MutRef (named 0) κ T.the-row ∷ []) x at) ∷ []) ∵ enter ! C Λ code.function (vptr b o ∷ []) _ $
         alloc1 ! (λ l0. alloc1 ! (λ l1. alloc1 ! (λ l2. alloc1 ! (λ l3. alloc0 ! $ params1 ! $ pass1 ! (init ! 4 refl (tt, tt)) $ pass0 ! $
         move ! (9 ∷ []) $ fsplit ! $ fsplit3 ! $ drop ! $ move ! (11 ∷ []) $ split ! $ move ! (2 ∷ 3 ∷ 0 ∷ []) $
-        opens ! tt T.the-row {h = h} b o (λ vs. spelt ! T.the-row (Is T.the-row) (shows 𝓤 H A T.the-row) (LL.vals T.the-type T′.the-laws) (LL.tells T.the-type T′.the-laws) fullShare h vs b o $
+        opens ! tt T.the-row {h = h} b o (λ vs. spelt ! T.the-row (Is T.the-row) (shows 𝓤 H A T.the-row) (LL.vals T.the-type T′.the-laws)
+        (LL.tells T.the-type T′.the-laws) fullShare h vs b o $
         use1 W (‵ (fat fullShare T′.mir b o (mach h))) (W .laws .raw-at fullShare T′.mir b o (mach h)) $
         move ! (1 ∷ []) $ peeks ! T.the-row (Is T.the-row) (shows 𝓤 H A T.the-row) h (machs h) (λ was. move ! (1 ∷ 0 ∷ []) $
         -- [the sender's cell; what it owns; the open borrow; obs; auth; true; the parameters'; the locals, the last first]
-        assigns ! (of-opd ! (load ! (from ! (hop ! (look ! 11 refl) (stop !))) (look ! 0 refl))) (from ! (stop !)) (init ! 7 refl (LL.lawful T.the-type T′.the-laws 𝓤 H A W .typed h _ was .0)) $
+        assigns ! (of-opd ! (load ! (from ! (hop ! (look ! 11 refl) (stop !))) (look ! 0 refl))) (from ! (stop !))
+        (init ! 7 refl (LL.lawful T.the-type T′.the-laws 𝓤 H A W .typed h _ was .0)) $
         nothing ! $ use1 W (raw (Callee 𝓤 H A at-mem run .pre to)) (goes was) $
         calls-at ! fm (Callee 𝓤 H A at-mem run) known to (and-then ! (load ! (from ! (stop !)) (look ! 8 refl)) (no-more !)) (λ v.
-        use1 W (later (some (λ (r : Ticked). (‵ ftrue ⊛ ‵ (S.the-row .own r (v ∷ []))) ⊛ raw (ensured 𝓤 H A callee.ended (callee.clauses 𝓤 H A at-mem run) tt (h, tt) tt r)))) (id⊢ 𝓤 _) $ await ! tt $ pick ! (λ r.
+        use1 W (later (some (λ (r : Ticked). (‵ ftrue ⊛ ‵ (S.the-row .own r (v ∷ []))) ⊛
+        raw (ensured 𝓤 H A callee.ended (callee.clauses 𝓤 H A at-mem run) tt (h, tt) tt r)))) (id⊢ 𝓤 _) $ await ! tt $ pick ! (λ r.
         split ! $ move ! (1 ∷ []) $ use1 W (raw (fact 𝓤 (r ≡ tickOf h))) (said r) $ heard ! (r ≡ tickOf h) (λ e. split ! $ drop ! $
         peeks ! S.the-row (Is S.the-row) (shows 𝓤 H A S.the-row) r (v ∷ []) (λ is.
         land ! (from ! (stop !)) (init ! 10 refl (LL.lawful S.the-type S′.the-laws 𝓤 H A W .typed r _ is .0)) $
         rewrite ! 10 (λ (u : Val). ‵ (fat fullShare S′.mir l2 0 u)) (ap only (LL.tells S.the-type S′.the-laws r _ is)) refl $
         -- [what the answer owns; the sender's cell; what it owns; the open borrow; obs; auth; true; the parameters'; the locals, the last first]
-        assigns ! (of-opd ! (load ! (from ! (fld ! refl (stop !))) (look-in ! 10 (sub ! 2 refl (whole !))))) (from ! (hop ! (look ! 12 refl) (stop !))) (store ! 1 refl (LL.lawful T.the-type T′.the-laws 𝓤 H A W .typed (r .sender) _ (LL.owed S.the-type S′.the-laws r _ is .1 .1 .0) .0)) $
-        assigns ! (agg ! (and-then ! (load ! (from ! (fld ! refl (stop !))) (look-in ! 10 (sub ! 0 refl (whole !)))) (and-then ! (load ! (from ! (fld ! refl (stop !))) (look-in ! 10 (sub ! 1 refl (whole !)))) (no-more !)))) (from ! (stop !)) (init ! 14 refl (LL.lawful U.the-type U′.the-laws 𝓤 H A W .typed (tickBeside r) _ (beside r is) .0)) $
+        assigns ! (of-opd ! (load ! (from ! (fld ! refl (stop !))) (look-in ! 10 (sub ! 2 refl (whole !))))) (from ! (hop ! (look ! 12 refl) (stop !)))
+        (store ! 1 refl (LL.lawful T.the-type T′.the-laws 𝓤 H A W .typed (r .sender) _ (LL.owed S.the-type S′.the-laws r _ is .1 .1 .0) .0)) $
+        assigns ! (agg ! (and-then ! (load ! (from ! (fld ! refl (stop !))) (look-in ! 10 (sub ! 0 refl (whole !))))
+        (and-then ! (load ! (from ! (fld ! refl (stop !))) (look-in ! 10 (sub ! 1 refl (whole !)))) (no-more !)))) (from ! (stop !))
+        (init ! 14 refl (LL.lawful U.the-type U′.the-laws 𝓤 H A W .typed (tickBeside r) _ (beside r is) .0)) $
         drop ! $ use1 W (‵ (cellAt fullShare (T.the-row .mir) (machs (r .sender)) b o)) (W .laws .at-raw fullShare T′.mir b o (mach (r .sender))) $
-        move ! (1 ∷ []) $ drop ! $ owned ! T.the-row (Is T.the-row) ((LL.makes T.the-type T′.the-plain) 𝓤 H A) (r .sender) _ (LL.owed S.the-type S′.the-laws r _ is .1 .1 .0) $ move ! (1 ∷ 0 ∷ []) $
+        move ! (1 ∷ []) $ drop ! $ owned ! T.the-row (Is T.the-row) ((LL.makes T.the-type T′.the-plain) 𝓤 H A) (r .sender) _
+        (LL.owed S.the-type S′.the-laws r _ is .1 .1 .0) $ move ! (1 ∷ 0 ∷ []) $
         closes ! tt T.the-row (r .sender) (machs (r .sender)) b o $
         returns ! (look ! 11 refl) $ forget ! 5 refl $ forget ! 7 refl $ forget ! 9 refl $ forget ! 11 refl $
         move ! (11 ∷ 12 ∷ []) $ free1 ! $ move ! (9 ∷ 10 ∷ []) $ free1 ! $ move ! (7 ∷ 8 ∷ []) $ free1 ! $ move ! (5 ∷ 6 ∷ []) $ free1 ! $ free0 ! $
         keep ! (0 ∷ 1 ∷ 2 ∷ []) $ by ! (exits r e (beside r is))))))))))))
 
 module _ {M : Type 1} (𝓤 : URA M) (H : Heap 𝓤) (A : Atoms 𝓤) (W : Given 𝓤 H A) (at-mem : Memory → SProp 𝓤) (run : Routine → Fun 𝓤) where
-  thin-walks : (C : Calls 𝓤 H) (Λ : Loops 𝓤 H) → FmC 𝓤 H (W .laws) C → Triple 𝓤 (C #callee) (Callee 𝓤 H A at-mem run) → Walks 𝓤 H A thin.ended stayed (WpFn 𝓤 H C Λ code.function) (thin.clauses 𝓤 H A at-mem run)
+  thin-walks : (C : Calls 𝓤 H) (Λ : Loops 𝓤 H) → FmC 𝓤 H (W .laws) C → Triple 𝓤 (C #callee) (Callee 𝓤 H A at-mem run)
+      → Walks 𝓤 H A thin.ended stayed (WpFn 𝓤 H C Λ code.function) (thin.clauses 𝓤 H A at-mem run)
   thin-walks C Λ fm known =
-      walked 𝓤 H A thin.ended stayed (thin.clauses 𝓤 H A at-mem run) (WpFn 𝓤 H C Λ code.function) (λ κs. (ptr-vals, tt)) (λ κs. (mut-tells (named 0) (κs .0) T.the-row, tt))
-      (λ κs qs bounds a _ are. via 𝓤 _ (fst∗ 𝓤 _ (emp 𝓤)) (walk 𝓤 H A W at-mem run (κs .0) (qs .0) (a .0 .ptr .0) (a .0 .ptr .1) (a .0 .name) (a .0 .now) C Λ fm known))
+      walked 𝓤 H A thin.ended stayed (thin.clauses 𝓤 H A at-mem run) (WpFn 𝓤 H C Λ code.function) (λ κs. (ptr-vals, tt))
+      (λ κs. (mut-tells (named 0) (κs .0) T.the-row, tt))
+      (λ κs qs bounds a _ are. via 𝓤 _ (fst∗ 𝓤 _ (emp 𝓤))
+      (walk 𝓤 H A W at-mem run (κs .0) (qs .0) (a .0 .ptr .0) (a .0 .ptr .1) (a .0 .name) (a .0 .now) C Λ fm known))
 
   all-go : AllGo 𝓤 H A W 1 (thin.signature .params) (thin.ended .kept) stayed
   all-go = (goes-ref 𝓤 H A W 1 0 tt (plain (λ _. T.the-row)), tt)
 
-thin-meets : {M : Type 1} (𝓤 : URA M) (H : Heap 𝓤) (A : Atoms 𝓤) → Given 𝓤 H A → (at-mem : Memory → SProp 𝓤) (run : Routine → Fun 𝓤) (𝓣 : Tables 𝓤 H) → Triple 𝓤 (𝓣 .C #callee) (Callee 𝓤 H A at-mem run)
+thin-meets : {M : Type 1} (𝓤 : URA M) (H : Heap 𝓤) (A : Atoms 𝓤) → Given 𝓤 H A → (at-mem : Memory → SProp 𝓤) (run : Routine → Fun 𝓤) (𝓣 : Tables 𝓤 H)
+    → Triple 𝓤 (𝓣 .C #callee) (Callee 𝓤 H A at-mem run)
     → Meets 𝓤 H A thin.signature (WpFn 𝓤 H (𝓣 .C) (𝓣 .Λ) code.function) (thin.spec 𝓤 H A at-mem run)
 thin-meets 𝓤 H A W at-mem run 𝓣 known =
-    walk-meets 𝓤 H A thin.ended stayed W (all-go 𝓤 H A W at-mem run) (thin.clauses 𝓤 H A at-mem run) (WpFn 𝓤 H (𝓣 .C) (𝓣 .Λ) code.function) (WpFn-mono 𝓤 H (W .laws) 𝓣 code.function)
+    walk-meets 𝓤 H A thin.ended stayed W (all-go 𝓤 H A W at-mem run) (thin.clauses 𝓤 H A at-mem run) (WpFn 𝓤 H (𝓣 .C) (𝓣 .Λ) code.function)
+    (WpFn-mono 𝓤 H (W .laws) 𝓣 code.function)
     (thin-walks 𝓤 H A W at-mem run (𝓣 .C) (𝓣 .Λ) (fmOf 𝓤 H (W .laws) 𝓣) known)
 
 pub tick-in-place-spec : {M : Type 1} → stated.statement M

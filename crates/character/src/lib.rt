@@ -1,5 +1,0 @@
-// Characters: a symbol written as ten bits at a disparity, and ten bits read again.
-pub mod disparity;
-pub mod reader;
-pub mod table;
-pub mod writer;

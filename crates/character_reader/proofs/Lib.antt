@@ -1,0 +1,3 @@
+pub mod Unpacking
+pub mod Runs
+pub mod Ranges

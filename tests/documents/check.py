@@ -1,0 +1,67 @@
+#!/usr/bin/env python3
+"""Every name that a document puts between backticks is there: a crate, a file, an edit, or a word of the sources.
+
+Fails, naming document, line and name. A row that names a theorem, a definition or an edit that is gone is found here; that
+the named thing says what the row says is for the reader.
+"""
+import pathlib
+import re
+import sys
+
+ROOT = pathlib.Path(__file__).resolve().parents[2]
+DOCUMENTS = ["README.md"] + [f"docs/{name}.md" for name in ("ARCHITECTURE", "CONTRACTS", "DECISIONS", "DEMANDS", "TRUST", "BENCH")]
+WORD = re.compile(r"[^\W_][\w'-]*(?:-[\w']+)*|_[\w]+")
+SOURCES = {".antt", ".rt", ".c", ".h", ".cpp", ".py", ".sh", ".edit", ".txt", ""}
+
+
+def tracked():
+    """Every file of the tree but the documents and what is built."""
+    for path in ROOT.rglob("*"):
+        parts = path.relative_to(ROOT).parts
+        if path.is_file() and parts[0] not in ("target", ".git", "docs") and path.name != "README.md":
+            yield path
+
+
+def words():
+    """Every word of a source, and every name of a file or folder."""
+    known = set()
+    for path in tracked():
+        for part in path.relative_to(ROOT).parts:
+            known.update((part, part.split(".")[0]))
+        if path.suffix in SOURCES:
+            known.update(WORD.findall(path.read_text(encoding="utf-8", errors="ignore")))
+    return known
+
+
+def spans(text):
+    """(line number, span) of each span between backticks, outside of blocks of code."""
+    fenced = False
+    for number, line in enumerate(text.split("\n"), 1):
+        if line.lstrip().startswith("```"):
+            fenced = not fenced
+        elif not fenced and not line.startswith("    "):
+            for span in re.findall(r"`([^`]+)`", line):
+                yield number, span
+
+
+def missing(span, known):
+    """The words of a span that are nowhere. `..` stands for any beginning or end of a word, `*` likewise."""
+    for token in re.split(r"[\s(),;{}\[\]/:.·≡∷→|&<>=+*\"@$]+", span):
+        token = token.strip("-'")
+        if not token or re.fullmatch(r"[\W\d]*|0x[0-9A-Fa-f]+|[NCFeXn]|NAME|PREFIX|X_rules|_rules", token):
+            continue
+        if token not in known and not (".." in span or "*" in span):
+            yield token
+
+
+def main():
+    known, faults = words(), []
+    for name in DOCUMENTS:
+        for number, span in spans((ROOT / name).read_text(encoding="utf-8")):
+            faults += [f"{name}:{number}: `{span}`: {token} is nowhere in the tree" for token in missing(span, known)]
+    print("\n".join(faults) if faults else "documents: every name that they give is there")
+    return 1 if faults else 0
+
+
+if __name__ == "__main__":
+    sys.exit(main())
