@@ -1,5 +1,5 @@
 // CRC-16 of a run of bytes. A register is a u16 whose lowest bit is X15.
-mod table;
+pub mod table;
 
 use crate::table::TABLE;
 ghost use mathlib.Core.Path.{_≡_};

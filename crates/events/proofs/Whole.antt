@@ -7,7 +7,7 @@ use Prim.Native.Nat.{ℕ, _≤_}
 use lib.IntN.{ℤ}
 use lib.ListN.{length, drop}
 use Rattle.laws.proofs.Bools.{true-T}
-use Rattle.character.proofs.Signed.{again}
+use Rattle.disparity.proofs.Signed.{again}
 use Rattle.character_rules.specs.Disparity.{isPlus, isDisparity, disparityOf}
 use Rattle.character_rules.specs.Results.{runClosing}
 use Rattle.character_rules.proofs.Disparities.{by-sign}

@@ -2,8 +2,8 @@
 ghost use mathlib.Core.Path.{_≡_};
 ghost use Prim.Native.Nat.{_≤_, _<_};
 ghost use lib.ListN.{length, getD};
-ghost use Rattle.character.specs.Entries.{resultIn};
-ghost use Rattle.character.specs.Table.{table};
+ghost use Rattle.character_table.specs.Entries.{resultIn};
+ghost use Rattle.character_table.specs.Table.{table};
 ghost use Rattle.character_rules.specs.Disparity.{disparityOf};
 ghost use Rattle.character_rules.specs.Reading.{reading};
 ghost use Rattle.character_rules.specs.Results.{packed};

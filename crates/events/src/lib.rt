@@ -1,19 +1,19 @@
 // A whole capture read into events, one packed number a character, with the table taken once and the state's rule tested once.
-mod bytes;
 mod characters;
+mod runs;
 mod turns;
 
-use character::disparity::disparity_of;
-use character::disparity::is_disparity;
-use character::disparity::is_plus;
-use character::table::TABLE;
+use disparity::disparity_of;
+use disparity::is_disparity;
+use disparity::is_plus;
 use events_rules::CaptureRead;
 use packet_rules::Reader;
 ghost use mathlib.Core.Path.{_≡_};
 ghost use mathlib.Core.Bool.{true};
 ghost use Prim.Native.Nat.{_+_, _≤_, _<_};
 ghost use lib.ListN.{length};
-ghost use Rattle.character.specs.Table.{table};
+ghost use Rattle.character_table.specs.Table.{table};
+ghost use Rattle.crc.specs.Crc16.{entries as crcEntries};
 ghost use Rattle.capture_rules.specs.Capture.{characterCount, charactersOf};
 ghost use Rattle.packet_rules.specs.State.{wellFormed};
 ghost use Rattle.events_rules.specs.Events.{notReadCapture, captureRead, eventsLeft};
@@ -28,8 +28,11 @@ pub struct Place {
 
 // One character: its event into the output, and the place after it.
 fn read_one(entries: &[u16; 1024], capture: &[u8], from: Place, events: &mut [u32]) -> Place
-    requires { ⌜ (now entries ≡ table) × (length (now capture) ≤ 65535) × (from .at < characterCount (length (now capture))) × (characterCount (length (now capture)) ≤ length (now events)) × (wellFormed (from .reader) ≡ true) ⌝ }
-    ensures { λ r. ⌜ Ran (charactersOf (now (capture .entry))) (from .at) (from .plus) (from .reader) (now (events .entry)) (r .at) (r .plus) (r .reader) (now (events .exit)) × (r .at ≡ from .at + 1) ⌝ }
+    requires { ⌜ (now entries ≡ table) × (length (now capture) ≤ 65535) × (from .at < characterCount (length (now capture)))
+        × (characterCount (length (now capture)) ≤ length (now events)) × (wellFormed (from .reader) ≡ true) ⌝ }
+    ensures { λ r. ⌜ Ran (charactersOf (now (capture .entry))) (from .at) (from .plus) (from .reader)
+        (now (events .entry)) (r .at) (r .plus) (r .reader) (now (events .exit))
+        × (r .at ≡ from .at + 1) ⌝ }
 {
     let i = from.at;
     let before = from.reader;
@@ -47,12 +50,21 @@ fn read_one(entries: &[u16; 1024], capture: &[u8], from: Place, events: &mut [u3
 }
 
 // A run of user bytes, if one stands here, and the character after it: at least one.
-fn read_some(entries: &[u16; 1024], capture: &[u8], from: Place, events: &mut [u32]) -> Place
-    requires { ⌜ (now entries ≡ table) × (length (now capture) ≤ 65535) × (from .at < characterCount (length (now capture))) × (characterCount (length (now capture)) ≤ length (now events)) × (wellFormed (from .reader) ≡ true) ⌝ }
-    ensures { λ r. ⌜ Ran (charactersOf (now (capture .entry))) (from .at) (from .plus) (from .reader) (now (events .entry)) (r .at) (r .plus) (r .reader) (now (events .exit)) × (from .at < r .at) ⌝ }
+fn read_some(
+    entries: &[u16; 1024],
+    crcs: &[u16; 256],
+    capture: &[u8],
+    from: Place,
+    events: &mut [u32],
+) -> Place
+    requires { ⌜ (now entries ≡ table) × (length (now capture) ≤ 65535) × (from .at < characterCount (length (now capture)))
+        × (characterCount (length (now capture)) ≤ length (now events)) × (wellFormed (from .reader) ≡ true) × (now crcs ≡ crcEntries) ⌝ }
+    ensures { λ r. ⌜ Ran (charactersOf (now (capture .entry))) (from .at) (from .plus) (from .reader)
+        (now (events .entry)) (r .at) (r .plus) (r .reader) (now (events .exit))
+        × (from .at < r .at) ⌝ }
 {
     let n = 8 * capture.len() / 10;
-    let q = bytes::user_bytes(entries, capture, from, n, &mut *events);
+    let q = runs::user_bytes(entries, crcs, capture, from, n, &mut *events);
     if q.at < n {
         return read_one(entries, capture, q, events);
     }
@@ -62,9 +74,11 @@ fn read_some(entries: &[u16; 1024], capture: &[u8], from: Place, events: &mut [u
 // All characters from the first on.
 fn read_each(capture: &[u8], plus: bool, reader: Reader, events: &mut [u32]) -> Place
     requires { ⌜ (length (now capture) ≤ 65535) × (characterCount (length (now capture)) ≤ length (now events)) × (wellFormed reader ≡ true) ⌝ }
-    ensures { λ r. ⌜ Ran (charactersOf (now (capture .entry))) 0 plus reader (now (events .entry)) (characterCount (length (now (capture .entry)))) (r .plus) (r .reader) (now (events .exit)) ⌝ }
+    ensures { λ r. ⌜ Ran (charactersOf (now (capture .entry))) 0 plus reader
+        (now (events .entry)) (characterCount (length (now (capture .entry)))) (r .plus) (r .reader) (now (events .exit)) ⌝ }
 {
-    let entries = TABLE;
+    let entries = character_table::TABLE;
+    let crcs = crc::table::TABLE;
     let n = 8 * capture.len() / 10;
     let mut p = Place {
         at: 0,
@@ -72,7 +86,7 @@ fn read_each(capture: &[u8], plus: bool, reader: Reader, events: &mut [u32]) -> 
         reader,
     };
     while p.at < n {
-        p = read_some(&entries, capture, p, &mut *events);
+        p = read_some(&entries, &crcs, capture, p, &mut *events);
     }
     p
 }
@@ -95,7 +109,8 @@ pub fn read_capture(
     disparity: i32,
     events: &mut [u32],
 ) -> CaptureRead
-    ensures { λ r. ⌜ (r ≡ captureRead (now (capture .entry)) reader disparity (length (now (events .entry)))) × (now (events .exit) ≡ eventsLeft (now (capture .entry)) reader disparity (now (events .entry))) ⌝ }
+    ensures { λ r. ⌜ (r ≡ captureRead (now (capture .entry)) reader disparity (length (now (events .entry))))
+        × (now (events .exit) ≡ eventsLeft (now (capture .entry)) reader disparity (now (events .entry))) ⌝ }
 {
     if !capture::is_legal(capture) {
         return not_read(refusal::BAD_CAPTURE, reader, disparity);

@@ -15,7 +15,7 @@ pub(crate) fn turn(reader: Reader, result: u16) -> Step
     requires { ⌜ wellFormed reader ≡ true ⌝ }
     ensures { λ s. ⌜ stepSays s ≡ stepOf reader (unpacked result) ⌝ }
 {
-    packet_reader::advance(reader, character::reader::unpack_result(result))
+    packet_reader::advance(reader, character_reader::unpack_result(result))
 }
 
 fn mark_number(mark: bool) -> u8

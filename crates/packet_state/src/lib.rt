@@ -14,7 +14,7 @@ pub fn is_outside(d: DataPacket, p: PriorityPacket) -> bool
     ensures { λ r. ⌜ r ≡ outside d p ⌝ }
 {
     match p {
-        PriorityPacket::InPriority { .. } => false, // in it
+        PriorityPacket::InPriority { .. } => false,
         PriorityPacket::NoPriority => match d {
             DataPacket::InData { .. } => false,
             DataPacket::NoData => true,
@@ -26,8 +26,8 @@ pub fn has_no_priority(p: PriorityPacket) -> bool
     ensures { λ r. ⌜ r ≡ noPriority p ⌝ }
 {
     match p {
-        PriorityPacket::InPriority { .. } => false, // one is open
-        PriorityPacket::NoPriority => true, // none is open
+        PriorityPacket::InPriority { .. } => false,
+        PriorityPacket::NoPriority => true,
     }
 }
 

@@ -14,12 +14,12 @@ pub fn moved(event: Event, phase: Phase, r: Reader) -> Step
     let packet = r.packet;
     let priority = r.priority;
     let reader = Reader {
-        size: r.size, // as it was
+        size: r.size,
         packet,
         priority,
         phase,
     };
-    Step { event, reader } // what it gives
+    Step { event, reader }
 }
 
 // A violation that closes all open packets.
@@ -57,7 +57,7 @@ pub fn closed(event: Event, r: Reader, p: PriorityPacket) -> Step
                 size,
                 packet: DataPacket::NoData,
                 priority: PriorityPacket::NoPriority,
-                phase: Phase::Free, // outside
+                phase: Phase::Free,
             };
             Step { event, reader }
         }

@@ -12,7 +12,7 @@ mul-n : tie.Need-mul-n
 mul-n c = omega arith
 
 user-bytes-requires : tie.Need-user-bytes-requires
-user-bytes-requires c κs = let s = c .before .before .before .pre in (s .0, s .1, omega arith, s .3, omega arith, s .4)
+user-bytes-requires c κs = let s = c .before .before .before .pre in (s .0, s .1, omega arith, s .3, omega arith, s .4, s .5)
 
 read-one-requires : tie.Need-read-one-requires
 read-one-requires c κs = let s = c .before .before .before .before .before .before .before .before .before .pre in

@@ -4,8 +4,8 @@ use mathlib.Core.Path.{_≡_, _∙_, ap}
 use mathlib.Core.List.{List}
 use Prim.Native.Nat.{ℕ}
 use lib.ListN.{getD}
-use Rattle.character.specs.Entries.{resultIn}
-use Rattle.character.proofs.Held.{table-right}
+use Rattle.character_table.specs.Entries.{resultIn}
+use Rattle.character_table.proofs.Held.{table-right}
 use borrow.Author.Needs.{needs}
 use Rattle.events.proofs.characters.look_up.Statement.{statement}
 use Rattle.events.proofs.characters.look_up.Tie as tie

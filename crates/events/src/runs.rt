@@ -9,7 +9,8 @@ ghost use mathlib.Core.Path.{_≡_};
 ghost use mathlib.Core.Bool.{true};
 ghost use Prim.Native.Nat.{_+_, _≤_, _<_};
 ghost use lib.ListN.{length};
-ghost use Rattle.character.specs.Table.{table};
+ghost use Rattle.character_table.specs.Table.{table};
+ghost use Rattle.crc.specs.Crc16.{crcByte, entries as crcEntries};
 ghost use Rattle.capture_rules.specs.Capture.{characterCount, charactersOf};
 ghost use Rattle.packet_rules.specs.State.{wellFormed};
 ghost use Rattle.packet_rules.proofs.Steps.{st};
@@ -26,16 +27,28 @@ pub struct Taken {
     pub register: u16,
 }
 
+// The register after one more byte, by one load from the table.
+fn step_by(crcs: &[u16; 256], register: u16, byte: u8) -> u16
+    requires { ⌜ now crcs ≡ crcEntries ⌝ }
+    ensures { λ r. ⌜ r ≡ crcByte register byte ⌝ }
+{
+    let low = (register ^ (byte as u16)) % 256;
+    (register / 256) ^ crcs[low as usize]
+}
+
 // Bytes as long as they come, none past `until`.
 fn take_bytes(
     entries: &[u16; 1024],
+    crcs: &[u16; 256],
     capture: &[u8],
     from: Taken,
     until: usize,
     events: &mut [u32],
 ) -> Taken
-    requires { ⌜ (now entries ≡ table) × (length (now capture) ≤ 65535) × (until ≤ characterCount (length (now capture))) × (characterCount (length (now capture)) ≤ length (now events)) × (from .at ≤ until) ⌝ }
-    ensures { λ r. ⌜ Fed (charactersOf (now (capture .entry))) until (from .at) (from .plus) (from .register) (now (events .entry)) (r .at) (r .plus) (r .register) (now (events .exit)) ⌝ }
+    requires { ⌜ (now entries ≡ table) × (length (now capture) ≤ 65535) × (until ≤ characterCount (length (now capture)))
+        × (characterCount (length (now capture)) ≤ length (now events)) × (from .at ≤ until) × (now crcs ≡ crcEntries) ⌝ }
+    ensures { λ r. ⌜ Fed (charactersOf (now (capture .entry))) until (from .at) (from .plus) (from .register)
+        (now (events .entry)) (r .at) (r .plus) (r .register) (now (events .exit)) ⌝ }
 {
     let mut plus = from.plus;
     let mut register = from.register;
@@ -48,7 +61,7 @@ fn take_bytes(
         }
         let byte = result % 256;
         events[at] = 262144 + byte as u32;
-        register = crc::step(register, byte as u8);
+        register = step_by(crcs, register, byte as u8);
         plus = 2048 <= result;
         at += 1;
     }
@@ -58,6 +71,7 @@ fn take_bytes(
 // In a data packet that has begun.
 fn data_bytes(
     entries: &[u16; 1024],
+    crcs: &[u16; 256],
     capture: &[u8],
     size: u16,
     channel: u8,
@@ -65,10 +79,13 @@ fn data_bytes(
     until: usize,
     events: &mut [u32],
 ) -> Place
-    requires { ⌜ (now entries ≡ table) × (length (now capture) ≤ 65535) × (until ≤ characterCount (length (now capture))) × (characterCount (length (now capture)) ≤ length (now events)) × (from .at ≤ until) × (wellFormed (st size (IsInData channel true (from .register)) IsNoPriority IsFree) ≡ true) ⌝ }
-    ensures { λ r. ⌜ Ran (charactersOf (now (capture .entry))) (from .at) (from .plus) (st size (IsInData channel true (from .register)) IsNoPriority IsFree) (now (events .entry)) (r .at) (r .plus) (r .reader) (now (events .exit)) ⌝ }
+    requires { ⌜ (now entries ≡ table) × (length (now capture) ≤ 65535) × (until ≤ characterCount (length (now capture)))
+        × (characterCount (length (now capture)) ≤ length (now events)) × (from .at ≤ until)
+        × (wellFormed (st size (IsInData channel true (from .register)) IsNoPriority IsFree) ≡ true) × (now crcs ≡ crcEntries) ⌝ }
+    ensures { λ r. ⌜ Ran (charactersOf (now (capture .entry))) (from .at) (from .plus) (st size (IsInData channel true (from .register)) IsNoPriority IsFree)
+        (now (events .entry)) (r .at) (r .plus) (r .reader) (now (events .exit)) ⌝ }
 {
-    let q = take_bytes(entries, capture, from, until, events);
+    let q = take_bytes(entries, crcs, capture, from, until, events);
     let packet = DataPacket::InData {
         channel,
         begun: true,
@@ -96,6 +113,7 @@ fn lesser(a: usize, b: usize) -> usize
 // In a priority packet: no more than S in all.
 fn priority_bytes(
     entries: &[u16; 1024],
+    crcs: &[u16; 256],
     capture: &[u8],
     size: u16,
     packet: DataPacket,
@@ -105,17 +123,22 @@ fn priority_bytes(
     until: usize,
     events: &mut [u32],
 ) -> Place
-    requires { ⌜ (now entries ≡ table) × (length (now capture) ≤ 65535) × (until ≤ characterCount (length (now capture))) × (characterCount (length (now capture)) ≤ length (now events)) × (from .at ≤ until) × (count ≤ size) × (wellFormed (st size packet (IsInPriority opening count (from .register)) IsFree) ≡ true) ⌝ }
-    ensures { λ r. ⌜ Ran (charactersOf (now (capture .entry))) (from .at) (from .plus) (st size packet (IsInPriority opening count (from .register)) IsFree) (now (events .entry)) (r .at) (r .plus) (r .reader) (now (events .exit)) ⌝ }
+    requires { ⌜ (now entries ≡ table) × (length (now capture) ≤ 65535) × (until ≤ characterCount (length (now capture)))
+        × (characterCount (length (now capture)) ≤ length (now events)) × (from .at ≤ until) × (count ≤ size)
+        × (wellFormed (st size packet (IsInPriority opening count (from .register)) IsFree) ≡ true) × (now crcs ≡ crcEntries) ⌝ }
+    ensures { λ r. ⌜ Ran (charactersOf (now (capture .entry))) (from .at) (from .plus) (st size packet (IsInPriority opening count (from .register)) IsFree)
+        (now (events .entry)) (r .at) (r .plus) (r .reader) (now (events .exit)) ⌝ }
 {
     let start = from.at;
     let room = (size - count) as usize;
     let left = lesser(until - start, room);
-    let q = take_bytes(entries, capture, from, start + left, events);
+    let q = take_bytes(entries, crcs, capture, from, start + left, events);
     let more = q.at - start;
+    let fed = more as u16;
+    let total = count + fed;
     let priority = PriorityPacket::InPriority {
         opening,
-        count: count + more as u16,
+        count: total,
         register: q.register,
     };
     let reader = Reader {
@@ -134,13 +157,17 @@ fn priority_bytes(
 // As many user bytes as come next, where a packet takes them.
 pub(crate) fn user_bytes(
     entries: &[u16; 1024],
+    crcs: &[u16; 256],
     capture: &[u8],
     from: Place,
     until: usize,
     events: &mut [u32],
 ) -> Place
-    requires { ⌜ (now entries ≡ table) × (length (now capture) ≤ 65535) × (until ≤ characterCount (length (now capture))) × (characterCount (length (now capture)) ≤ length (now events)) × (from .at ≤ until) × (wellFormed (from .reader) ≡ true) ⌝ }
-    ensures { λ r. ⌜ Ran (charactersOf (now (capture .entry))) (from .at) (from .plus) (from .reader) (now (events .entry)) (r .at) (r .plus) (r .reader) (now (events .exit)) ⌝ }
+    requires { ⌜ (now entries ≡ table) × (length (now capture) ≤ 65535) × (until ≤ characterCount (length (now capture)))
+        × (characterCount (length (now capture)) ≤ length (now events)) × (from .at ≤ until) × (wellFormed (from .reader) ≡ true)
+        × (now crcs ≡ crcEntries) ⌝ }
+    ensures { λ r. ⌜ Ran (charactersOf (now (capture .entry))) (from .at) (from .plus) (from .reader)
+        (now (events .entry)) (r .at) (r .plus) (r .reader) (now (events .exit)) ⌝ }
 {
     let at = from.at;
     let plus = from.plus;
@@ -161,6 +188,7 @@ pub(crate) fn user_bytes(
                     if begun {
                         data_bytes(
                             entries,
+                            crcs,
                             capture,
                             size,
                             channel,
@@ -181,6 +209,7 @@ pub(crate) fn user_bytes(
                 if count <= size {
                     priority_bytes(
                         entries,
+                        crcs,
                         capture,
                         size,
                         packet,

@@ -13,15 +13,15 @@ use Rattle.character_rules.specs.Results.{packed}
 use Rattle.capture_rules.specs.Capture.{charactersOf}
 use Rattle.capture_rules.proofs.Packing.{characters-below, characters-length}
 use Rattle.events_rules.proofs.Feeding.{Fed, fed-none, fed-one}
-use Rattle.events.proofs.bytes.take_bytes.Statement.{statement}
-use Rattle.events.proofs.bytes.take_bytes.Tie as tie
+use Rattle.events.proofs.runs.take_bytes.Statement.{statement}
+use Rattle.events.proofs.runs.take_bytes.Tie as tie
 
 abbrev Inv-loop : tie.InvT-loop
-Inv-loop entries capture until events₀ plus₀ register₀ at₀ events plus register at =
+Inv-loop entries crcs capture until events₀ plus₀ register₀ at₀ events plus register at =
     Fed (charactersOf capture) until at₀ plus₀ register₀ events₀ at plus register events
 
 abbrev μ-loop : tie.MeasureT-loop
-μ-loop entries capture until events₀ plus₀ register₀ at₀ events plus register at = until - at
+μ-loop entries crcs capture until events₀ plus₀ register₀ at₀ events plus register at = until - at
 
 loop-holds : tie.Need-loop-holds Inv-loop μ-loop
 loop-holds c = let a = c .before .before .args in
@@ -53,11 +53,11 @@ mul-events c = let r = c .before .before .before .before .loop .inv .room in ome
 slice-write-events : tie.Need-slice-write-events Inv-loop μ-loop
 slice-write-events c = let r = c .before .before .before .before .loop .inv .room in omega arith
 
-cast-step : tie.Need-cast-step Inv-loop μ-loop
-cast-step c = search needs
+cast-step-by : tie.Need-cast-step-by Inv-loop μ-loop
+cast-step-by c = search needs
 
-step-requires : tie.Need-step-requires Inv-loop μ-loop
-step-requires c κs = search needs
+step-by-requires : tie.Need-step-by-requires Inv-loop μ-loop
+step-by-requires c κs = c .before .before .before .before .before .before .before .pre .5
 
 add-at : tie.Need-add-at Inv-loop μ-loop
 add-at c = omega arith
@@ -73,7 +73,7 @@ loop-again c = let a = c .before .before .before .before .before .before .before
     let room = l .inv .room in
     let is = c .before .before .look-up .ensures ∙ ap (λ (k : ℕ). packed (reading k (disparityOf (l .plus)))) (c .before .before .before .ten-bits .ensures) in
     let fed = fed-one cs (a .until) (a .from .at) (a .from .plus) (a .from .register) (a .events .now) (omega arith) (l .at) (l .plus) (l .register) (l .events) (c .before .before .look-up .result) (l .inv) (c .before .before .before .before .loop-test .taken) (getD-below 1024 (charactersOf (a .capture .now)) (omega arith) (characters-below (a .capture .now)) (c .before .before .before .before .before .loop .at)) (omega arith) is (c .before .if1 .left) in
-    subst (λ (x : ℕ). Fed cs (a .until) (a .from .at) (a .from .plus) (a .from .register) (a .events .now) (l .at + 1) (leb 2048 (c .before .before .look-up .result)) x (set (l .events) (l .at) (262144 + c .before .before .look-up .result % 256))) (sym (c .step .ensures)) fed
+    subst (λ (x : ℕ). Fed cs (a .until) (a .from .at) (a .from .plus) (a .from .register) (a .events .now) (l .at + 1) (leb 2048 (c .before .before .look-up .result)) x (set (l .events) (l .at) (262144 + c .before .before .look-up .result % 256))) (sym (c .step-by .ensures)) fed
 
 same-length-2 : tie.Need-same-length-2 Inv-loop μ-loop
 same-length-2 c = c .before .loop .inv .room
@@ -96,8 +96,8 @@ take-bytes-spec =
     add-events
     mul-events
     slice-write-events
-    cast-step
-    step-requires
+    cast-step-by
+    step-by-requires
     add-at
     loop-less
     loop-again

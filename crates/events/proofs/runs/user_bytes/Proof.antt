@@ -8,8 +8,8 @@ use Rattle.capture_rules.proofs.Packing.{characters-length}
 use Rattle.packet_rules.specs.State.{wellFormed}
 use Rattle.events_rules.proofs.Runs.{ran-none, ran-same, ran-then}
 use Rattle.events.proofs.States.{by-parts, begun-data}
-use Rattle.events.proofs.bytes.user_bytes.Statement.{statement}
-use Rattle.events.proofs.bytes.user_bytes.Tie as tie
+use Rattle.events.proofs.runs.user_bytes.Statement.{statement}
+use Rattle.events.proofs.runs.user_bytes.Tie as tie
 
 enum-told : tie.Need-enum-told
 enum-told c = search needs
@@ -26,7 +26,7 @@ enum-known-packet c = search needs
 data-bytes-requires : tie.Need-data-bytes-requires
 data-bytes-requires c κs = let s = c .before .before .before .before .before .before .before .before .before .before .before .before .pre in
     let a = c .before .before .before .before .before .before .before .before .before .before .before .before .args in
-    (s .0, s .1, s .2, s .3, s .4, sym (ap wellFormed (begun-data (a .from .reader) _ _ _ (c .before .before .before .packet .given .1) (c .before .if1 .taken) (c .before .before .before .before .before .enum-told2 .given .1) (c .before .before .before .before .before .before .before .enum-told .given .1))) ∙ s .5)
+    (s .0, s .1, s .2, s .3, s .4, sym (ap wellFormed (begun-data (a .from .reader) _ _ _ (c .before .before .before .packet .given .1) (c .before .if1 .taken) (c .before .before .before .before .before .enum-told2 .given .1) (c .before .before .before .before .before .before .before .enum-told .given .1))) ∙ s .5, s .6)
 
 enum-known-priority : tie.Need-enum-known-priority
 enum-known-priority c = search needs
@@ -34,7 +34,7 @@ enum-known-priority c = search needs
 priority-bytes-requires : tie.Need-priority-bytes-requires
 priority-bytes-requires c κs = let s = c .before .before .before .before .before .before .before .before .before .before .pre in
     let a = c .before .before .before .before .before .before .before .before .before .before .args in
-    (s .0, s .1, s .2, s .3, s .4, c .before .if2 .taken, sym (ap wellFormed (by-parts (a .from .reader) refl (c .before .before .before .priority .given .1) (c .before .before .before .before .before .enum-told .given .1))) ∙ s .5)
+    (s .0, s .1, s .2, s .3, s .4, c .before .if2 .taken, sym (ap wellFormed (by-parts (a .from .reader) refl (c .before .before .before .priority .given .1) (c .before .before .before .before .before .enum-told .given .1))) ∙ s .5, s .6)
 
 enum-told-4 : tie.Need-enum-told-4
 enum-told-4 c = search needs

@@ -5,8 +5,8 @@ use native.Mathlib.Omega.{arith}
 use Prim.Native.Nat.{_+_}
 use Rattle.capture_rules.specs.Capture.{charactersOf}
 use Rattle.events_rules.proofs.Feeding.{priority-ran}
-use Rattle.events.proofs.bytes.priority_bytes.Statement.{statement}
-use Rattle.events.proofs.bytes.priority_bytes.Tie as tie
+use Rattle.events.proofs.runs.priority_bytes.Statement.{statement}
+use Rattle.events.proofs.runs.priority_bytes.Tie as tie
 
 sub-room : tie.Need-sub-room
 sub-room c = omega arith
@@ -24,16 +24,16 @@ add-take-bytes : tie.Need-add-take-bytes
 add-take-bytes c = omega arith
 
 take-bytes-requires : tie.Need-take-bytes-requires
-take-bytes-requires c κs = let s = c .before .before .before .before .pre in (s .0, s .1, omega arith, s .3, omega arith)
+take-bytes-requires c κs = let s = c .before .before .before .before .pre in (s .0, s .1, omega arith, s .3, omega arith, s .7)
 
 sub-more : tie.Need-sub-more
 sub-more c = let f = c .before .before .before .take-bytes .ensures .forward in omega arith
 
-cast-t17 : tie.Need-cast-t17
-cast-t17 c = let f = c .before .before .before .take-bytes .ensures .forward in let w = c .before .before .before .take-bytes .ensures .within in omega arith
+cast-fed : tie.Need-cast-fed
+cast-fed c = let f = c .before .before .before .take-bytes .ensures .forward in let w = c .before .before .before .take-bytes .ensures .within in omega arith
 
-add-t21 : tie.Need-add-t21
-add-t21 c = let f = c .before .before .before .take-bytes .ensures .forward in let w = c .before .before .before .take-bytes .ensures .within in omega arith
+add-total : tie.Need-add-total
+add-total c = let f = c .before .before .before .take-bytes .ensures .forward in let w = c .before .before .before .take-bytes .ensures .within in omega arith
 
 same-length : tie.Need-same-length
 same-length c = c .before .before .before .take-bytes .ensures .room
@@ -44,4 +44,4 @@ returns c = let a = c .before .before .before .before .before .before .before .b
     (a .size) (a .packet) (a .opening) (a .count) (omega arith) (c .before .before .before .before .before .before .before .before .pre .6)
 
 pub priority-bytes-spec : {M : Type 1} → statement M
-priority-bytes-spec = tie.close (tie.spec sub-room cast-room sub-lesser lesser-requires add-take-bytes take-bytes-requires sub-more cast-t17 add-t21 same-length returns)
+priority-bytes-spec = tie.close (tie.spec sub-room cast-room sub-lesser lesser-requires add-take-bytes take-bytes-requires sub-more cast-fed add-total same-length returns)

@@ -2,11 +2,11 @@
 -- Assumes nothing.
 use Rattle.capture_rules.specs.Capture.{charactersOf}
 use Rattle.events_rules.proofs.Feeding.{data-ran}
-use Rattle.events.proofs.bytes.data_bytes.Statement.{statement}
-use Rattle.events.proofs.bytes.data_bytes.Tie as tie
+use Rattle.events.proofs.runs.data_bytes.Statement.{statement}
+use Rattle.events.proofs.runs.data_bytes.Tie as tie
 
 take-bytes-requires : tie.Need-take-bytes-requires
-take-bytes-requires c κs = let s = c .before .before .before .pre in (s .0, s .1, s .2, s .3, s .4)
+take-bytes-requires c κs = let s = c .before .before .before .pre in (s .0, s .1, s .2, s .3, s .4, s .6)
 
 same-length : tie.Need-same-length
 same-length c = c .before .before .take-bytes .ensures .room
