@@ -106,7 +106,7 @@ static void a_step(struct pair *p) {
 /* The character of a symbol, at a disparity, right or wrong; of what has none, anything. */
 static uint16_t character_for(struct symbol s, int32_t d) {
   uint32_t c = below(1024);
-  int32_t at = s.violation == 2 ? -d : d;
+  int32_t at = s.violation != 2 ? d : d == 1 ? -1 : 1;
   if (s.violation != 1 && s.control && s.byte == 0xFC) c = at == -1 ? 0x0F8 : 0x307;
   else if (s.violation != 1) (void)ref_write_character(s.byte, s.control, &at, &c);
   return (uint16_t)c;

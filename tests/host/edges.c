@@ -137,8 +137,10 @@ static void refused_lines(void) {
 static void refused_captures(void) {
   static uint8_t zeros[65546];
   static uint16_t run[52440];
+  static uint32_t events[52429];
   static const size_t wrong[] = {1, 6, 11, 65531, 65536, 65537, 65540, 65546};
   begin();
+  events[52428] = 7;
   for (size_t i = 0; i < sizeof wrong / sizeof wrong[0]; i++) {
     REFUSED(BUZZ_BAD_CAPTURE, buzz_capture_count(zeros, wrong[i], &m.n));
     REFUSED(BUZZ_BAD_CAPTURE, buzz_capture_character(zeros, wrong[i], 0, &m.a));
@@ -152,6 +154,10 @@ static void refused_captures(void) {
   CHECK(buzz_capture_character(zeros, 65535, 52427, &m.a) == BUZZ_OK && m.a == 0);
   REFUSED(BUZZ_OUT_OF_RANGE, buzz_capture_character(zeros, 65535, 52428, &m.a));
   CHECK(buzz_unpack(zeros, 65535, run, 52428, &m.n) == BUZZ_OK && m.n == 52428);
+  begin();
+  REFUSED(BUZZ_SHORT_OUTPUT, buzz_read_capture(zeros, 65535, &m.reader, &m.disparity, events, 52427, &m.n));
+  CHECK(buzz_read_capture(zeros, 65535, &m.reader, &m.disparity, events, 52428, &m.n) == BUZZ_OK && m.n == 52428 && m.disparity == -1);
+  CHECK(BUZZ_EVENT(events[0]) == BUZZ_VIOLATION && BUZZ_VALUE(events[0]) == 1 && events[1] == 0 && events[52427] == 0 && events[52428] == 7);
   run[0] = 1024;
   REFUSED(BUZZ_BAD_CAPTURE, buzz_pack(run, 52429, zeros, 0, &m.n));
   REFUSED(BUZZ_OUT_OF_RANGE, buzz_pack(run, 52428, zeros, 0, &m.n));
