@@ -41,7 +41,10 @@ cast-stored-in : tie.Need-cast-stored-in
 cast-stored-in c = omega (arith, (seen (c .before .before .before .before .before .before .before .before)) .channel-lt)
 
 cast-stored-in-2 : tie.Need-cast-stored-in-2
-cast-stored-in-2 c = omega (arith, fits-length (call (c .before .before .before .before .before .before .before .before .before .before .before .before)) (seen (c .before .before .before .before .before .before .before .before)))
+cast-stored-in-2 c = omega (
+  arith,
+  fits-length (call (c .before .before .before .before .before .before .before .before .before .before .before .before)) (seen (c .before .before .before .before .before .before .before .before)),
+)
 
 stored-in-requires : tie.Need-stored-in-requires
 stored-in-requires c κs = (seen (c .before .before .before .before .before .before .before .before)) .free

@@ -47,7 +47,10 @@ cast-to : tie.Need-cast-to
 cast-to c = search needs
 
 add-to : tie.Need-add-to
-add-to c = omega (arith, (within (call (c .before .before .before .before .before .before .before .before .before .before .before)) (seen (c .before .before .before .before .before .before .before)) (c .before .before .before .before .if2 .left) _ _ (c .before .buffer-at .ensures .1) (ap (λ (a : Sent). a .length) (c .before .before .before .due-sent .ensures))) .below)
+add-to c = omega (
+  arith,
+  (within (call (c .before .before .before .before .before .before .before .before .before .before .before)) (seen (c .before .before .before .before .before .before .before)) (c .before .before .before .before .if2 .left) _ _ (c .before .buffer-at .ensures .1) (ap (λ (a : Sent). a .length) (c .before .before .before .due-sent .ensures))) .below,
+)
 
 sub-lay : tie.Need-sub-lay
 sub-lay c = search needs
@@ -69,7 +72,10 @@ returns-3 c =
     let v = (call (c .before .before .before .before .before .before .before .before .before .before .before .before .before .before .before .before)) in
     sends v (seen (c .before .before .before .before .before .before .before .before .before .before .before .before)) (c .before .before .before .before .before .before .before .before .before .if2 .left) _ _ _ _ (c .before .before .before .before .before .before .before .before .due-sent .ensures)
     (c .before .before .before .before .before .before .buffer-at .ensures .0 ∙ ap (λ (i : ℕ). i * v .sender .counters .size) (c .before .before .before .before .before .before .before .slot-of .ensures .0))
-    (ap (λ (a : Sent). a .length) (c .before .before .before .before .before .before .before .before .due-sent .ensures)) (c .before .before .lay .ensures .1 ∙ laid-where _ 0 _ (omega (arith, part-length v (seen (c .before .before .before .before .before .before .before .before .before .before .before .before)) (c .before .before .before .before .before .before .before .before .before .if2 .left) _ _ (within (call (c .before .before .before .before .before .before .before .before .before .before .before .before .before .before .before .before)) (seen (c .before .before .before .before .before .before .before .before .before .before .before .before)) (c .before .before .before .before .before .before .before .before .before .if2 .left) _ _ (c .before .before .before .before .before .before .buffer-at .ensures .1) (ap (λ (a : Sent). a .length) (c .before .before .before .before .before .before .before .before .due-sent .ensures))))))
+    (ap (λ (a : Sent). a .length) (c .before .before .before .before .before .before .before .before .due-sent .ensures)) (c .before .before .lay .ensures .1 ∙ laid-where _ 0 _ (omega (
+      arith,
+      part-length v (seen (c .before .before .before .before .before .before .before .before .before .before .before .before)) (c .before .before .before .before .before .before .before .before .before .if2 .left) _ _ (within (call (c .before .before .before .before .before .before .before .before .before .before .before .before .before .before .before .before)) (seen (c .before .before .before .before .before .before .before .before .before .before .before .before)) (c .before .before .before .before .before .before .before .before .before .if2 .left) _ _ (c .before .before .before .before .before .before .buffer-at .ensures .1) (ap (λ (a : Sent). a .length) (c .before .before .before .before .before .before .before .before .due-sent .ensures))),
+    )))
 
 pub send-spec : {M : Type 1} → statement M
 send-spec = tie.close (tie.spec send-refusal-requires unsent-requires returns unsent-requires-2 returns-2 due-sent-requires slot-of-requires buffer-at-requires cast-to add-to sub-lay part-lay-start part-lay-end lay-requires same-length returns-3)

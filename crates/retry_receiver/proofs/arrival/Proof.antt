@@ -44,7 +44,10 @@ cast-delivered : tie.Need-cast-delivered
 cast-delivered c = omega (arith, (seen (c .before .before .before .before .before .before .before)) .channel-lt)
 
 cast-delivered-2 : tie.Need-cast-delivered-2
-cast-delivered-2 c = omega (arith, fits-length (call (c .before .before .before .before .before .before .before .before .before .before .before)) (seen (c .before .before .before .before .before .before .before)))
+cast-delivered-2 c = omega (
+  arith,
+  fits-length (call (c .before .before .before .before .before .before .before .before .before .before .before)) (seen (c .before .before .before .before .before .before .before)),
+)
 
 delivered-requires : tie.Need-delivered-requires
 delivered-requires c κs = search needs
@@ -53,7 +56,10 @@ same-length : tie.Need-same-length
 same-length c = search needs
 
 returns-2 : tie.Need-returns-2
-returns-2 c = delivers (call (c .before .before .before .before .before .before .before .before .before .before .before .before)) (seen (c .before .before .before .before .before .before .before .before)) _ _ (c .before .before .before .before .before .before .if2 .taken) (c .before .before .before .before .before .if3 .taken) (c .delivered .ensures) (c .before .before .before .lay .ensures .1 ∙ laid-where _ 0 _ (omega (arith, fits-output (call (c .before .before .before .before .before .before .before .before .before .before .before .before)) (seen (c .before .before .before .before .before .before .before .before)) (c .before .before .before .before .before .before .if2 .taken) (c .before .before .before .before .before .if3 .taken))))
+returns-2 c = delivers (call (c .before .before .before .before .before .before .before .before .before .before .before .before)) (seen (c .before .before .before .before .before .before .before .before)) _ _ (c .before .before .before .before .before .before .if2 .taken) (c .before .before .before .before .before .if3 .taken) (c .delivered .ensures) (c .before .before .before .lay .ensures .1 ∙ laid-where _ 0 _ (omega (
+  arith,
+  fits-output (call (c .before .before .before .before .before .before .before .before .before .before .before .before)) (seen (c .before .before .before .before .before .before .before .before)) (c .before .before .before .before .before .before .if2 .taken) (c .before .before .before .before .before .if3 .taken),
+)))
 
 nack-requires : tie.Need-nack-requires
 nack-requires c κs = search needs

@@ -28,26 +28,60 @@ cast-if4 c = search needs
 
 returns-4 : tie.Need-returns-4
 unfolding arrivalChecks
-returns-4 c = simp (lt-ltb _ _ (c .if4 .taken), lt-ltb _ _ (c .before .before .if3 .left), lt-ltb _ _ (c .before .before .before .if2 .left), sym (c .before .before .before .before .before .receiver-is-ruled .ensures) ∙ not-false _ (c .before .before .before .before .if1 .left))
+returns-4 c = simp (
+  lt-ltb _ _ (c .if4 .taken),
+  lt-ltb _ _ (c .before .before .if3 .left),
+  lt-ltb _ _ (c .before .before .before .if2 .left),
+  sym (c .before .before .before .before .before .receiver-is-ruled .ensures) ∙ not-false _ (c .before .before .before .before .if1 .left),
+)
 
 returns-5 : tie.Need-returns-5
 unfolding arrivalChecks
-returns-5 c = simp (eq-eqb _ _ (c .if5 .taken), le-ltb _ _ (c .before .if4 .left), lt-ltb _ _ (c .before .before .before .if3 .left), lt-ltb _ _ (c .before .before .before .before .if2 .left), sym (c .before .before .before .before .before .before .receiver-is-ruled .ensures) ∙ not-false _ (c .before .before .before .before .before .if1 .left))
+returns-5 c = simp (
+  eq-eqb _ _ (c .if5 .taken),
+  le-ltb _ _ (c .before .if4 .left),
+  lt-ltb _ _ (c .before .before .before .if3 .left),
+  lt-ltb _ _ (c .before .before .before .before .if2 .left),
+  sym (c .before .before .before .before .before .before .receiver-is-ruled .ensures) ∙ not-false _ (c .before .before .before .before .before .if1 .left),
+)
 
 is-wanted-requires : tie.Need-is-wanted-requires
 is-wanted-requires c κs = search needs
 
 returns-6 : tie.Need-returns-6
 unfolding arrivalChecks
-returns-6 c = simp (lt-ltb _ _ (c .if7 .taken), sym (c .before .before .is-wanted .ensures) ∙ c .before .if6 .taken, ne-eqb _ _ (c .before .before .before .if5 .left), le-ltb _ _ (c .before .before .before .before .if4 .left), lt-ltb _ _ (c .before .before .before .before .before .before .if3 .left), lt-ltb _ _ (c .before .before .before .before .before .before .before .if2 .left), sym (c .before .before .before .before .before .before .before .before .before .receiver-is-ruled .ensures) ∙ not-false _ (c .before .before .before .before .before .before .before .before .if1 .left))
+returns-6 c = simp (
+  lt-ltb _ _ (c .if7 .taken),
+  sym (c .before .before .is-wanted .ensures) ∙ c .before .if6 .taken,
+  ne-eqb _ _ (c .before .before .before .if5 .left),
+  le-ltb _ _ (c .before .before .before .before .if4 .left),
+  lt-ltb _ _ (c .before .before .before .before .before .before .if3 .left),
+  lt-ltb _ _ (c .before .before .before .before .before .before .before .if2 .left),
+  sym (c .before .before .before .before .before .before .before .before .before .receiver-is-ruled .ensures) ∙ not-false _ (c .before .before .before .before .before .before .before .before .if1 .left),
+)
 
 returns-7 : tie.Need-returns-7
 unfolding arrivalChecks
-returns-7 c = simp (le-ltb _ _ (c .if7 .left), sym (c .before .before .is-wanted .ensures) ∙ c .before .if6 .taken, ne-eqb _ _ (c .before .before .before .if5 .left), le-ltb _ _ (c .before .before .before .before .if4 .left), lt-ltb _ _ (c .before .before .before .before .before .before .if3 .left), lt-ltb _ _ (c .before .before .before .before .before .before .before .if2 .left), sym (c .before .before .before .before .before .before .before .before .before .receiver-is-ruled .ensures) ∙ not-false _ (c .before .before .before .before .before .before .before .before .if1 .left))
+returns-7 c = simp (
+  le-ltb _ _ (c .if7 .left),
+  sym (c .before .before .is-wanted .ensures) ∙ c .before .if6 .taken,
+  ne-eqb _ _ (c .before .before .before .if5 .left),
+  le-ltb _ _ (c .before .before .before .before .if4 .left),
+  lt-ltb _ _ (c .before .before .before .before .before .before .if3 .left),
+  lt-ltb _ _ (c .before .before .before .before .before .before .before .if2 .left),
+  sym (c .before .before .before .before .before .before .before .before .before .receiver-is-ruled .ensures) ∙ not-false _ (c .before .before .before .before .before .before .before .before .if1 .left),
+)
 
 returns-8 : tie.Need-returns-8
 unfolding arrivalChecks
-returns-8 c = simp (sym (c .before .is-wanted .ensures) ∙ c .if6 .left, ne-eqb _ _ (c .before .before .if5 .left), le-ltb _ _ (c .before .before .before .if4 .left), lt-ltb _ _ (c .before .before .before .before .before .if3 .left), lt-ltb _ _ (c .before .before .before .before .before .before .if2 .left), sym (c .before .before .before .before .before .before .before .before .receiver-is-ruled .ensures) ∙ not-false _ (c .before .before .before .before .before .before .before .if1 .left))
+returns-8 c = simp (
+  sym (c .before .is-wanted .ensures) ∙ c .if6 .left,
+  ne-eqb _ _ (c .before .before .if5 .left),
+  le-ltb _ _ (c .before .before .before .if4 .left),
+  lt-ltb _ _ (c .before .before .before .before .before .if3 .left),
+  lt-ltb _ _ (c .before .before .before .before .before .before .if2 .left),
+  sym (c .before .before .before .before .before .before .before .before .receiver-is-ruled .ensures) ∙ not-false _ (c .before .before .before .before .before .before .before .if1 .left),
+)
 
 pub arrival-refusal-spec : {M : Type 1} → statement M
 arrival-refusal-spec = tie.close (tie.spec receiver-is-ruled-requires returns returns-2 returns-3 cast-if4 returns-4 returns-5 is-wanted-requires returns-6 returns-7 returns-8)

@@ -31,7 +31,11 @@ to-oldest-requires c κs = search needs
 
 returns-3 : tie.Need-returns-3
 unfolding acked
-returns-3 c = simp (c .to-oldest .ensures, sym (c .before .before .among-last .ensures) ∙ c .before .if2 .left, sym (c .before .before .before .before .is-of-oldest .ensures) ∙ c .before .before .before .if1 .left)
+returns-3 c = simp (
+  c .to-oldest .ensures,
+  sym (c .before .before .among-last .ensures) ∙ c .before .if2 .left,
+  sym (c .before .before .before .before .is-of-oldest .ensures) ∙ c .before .before .before .if1 .left,
+)
 
 pub acked-spec : {M : Type 1} → statement M
 acked-spec = tie.close (tie.spec is-of-oldest-requires one-released-requires restarted-requires returns among-last-requires returns-2 to-oldest-requires returns-3)

@@ -18,7 +18,13 @@ to-oldest-requires c κs = search needs
 
 returns-2 : tie.Need-returns-2
 unfolding ticked
-returns-2 c = simp (c .to-oldest .ensures, c .before .expired .ensures, lt-ltb _ _ (c .before .before .if3 .taken), eq-eqb _ _ (c .before .before .before .before .if2 .taken), ne-eqb _ _ (c .before .before .before .before .before .before .if1 .left))
+returns-2 c = simp (
+  c .to-oldest .ensures,
+  c .before .expired .ensures,
+  lt-ltb _ _ (c .before .before .if3 .taken),
+  eq-eqb _ _ (c .before .before .before .before .if2 .taken),
+  ne-eqb _ _ (c .before .before .before .before .before .before .if1 .left),
+)
 
 expired-requires-2 : tie.Need-expired-requires-2
 expired-requires-2 c κs = search needs
@@ -28,7 +34,13 @@ fallen-requires c κs = search needs
 
 returns-3 : tie.Need-returns-3
 unfolding ticked
-returns-3 c = simp (c .fallen .ensures, c .before .expired2 .ensures, le-ltb _ _ (c .before .before .if3 .left), eq-eqb _ _ (c .before .before .before .before .if2 .taken), ne-eqb _ _ (c .before .before .before .before .before .before .if1 .left))
+returns-3 c = simp (
+  c .fallen .ensures,
+  c .before .expired2 .ensures,
+  le-ltb _ _ (c .before .before .if3 .left),
+  eq-eqb _ _ (c .before .before .before .before .if2 .taken),
+  ne-eqb _ _ (c .before .before .before .before .before .before .if1 .left),
+)
 
 sub-d : tie.Need-sub-d
 sub-d c = search needs

@@ -29,14 +29,23 @@ window-is-ruled-requires c κs = search needs
 
 returns-3 : tie.Need-returns-3
 unfolding countersRule
-returns-3 c = simp (sym (c .before .window-is-ruled .ensures) ∙ not-true _ (c .if3 .taken), sym (c .before .before .before .count-is-ruled .ensures) ∙ not-false _ (c .before .before .if2 .left), sym (c .before .before .before .before .before .size-is-allowed .ensures) ∙ not-false _ (c .before .before .before .before .if1 .left))
+returns-3 c = simp (
+  sym (c .before .window-is-ruled .ensures) ∙ not-true _ (c .if3 .taken),
+  sym (c .before .before .before .count-is-ruled .ensures) ∙ not-false _ (c .before .before .if2 .left),
+  sym (c .before .before .before .before .before .size-is-allowed .ensures) ∙ not-false _ (c .before .before .before .before .if1 .left),
+)
 
 timer-is-ruled-requires : tie.Need-timer-is-ruled-requires
 timer-is-ruled-requires c κs = search needs
 
 returns-4 : tie.Need-returns-4
 unfolding countersRule
-returns-4 c = simp (c .timer-is-ruled .ensures, sym (c .before .before .window-is-ruled .ensures) ∙ not-false _ (c .before .if3 .left), sym (c .before .before .before .before .count-is-ruled .ensures) ∙ not-false _ (c .before .before .before .if2 .left), sym (c .before .before .before .before .before .before .size-is-allowed .ensures) ∙ not-false _ (c .before .before .before .before .before .if1 .left))
+returns-4 c = simp (
+  c .timer-is-ruled .ensures,
+  sym (c .before .before .window-is-ruled .ensures) ∙ not-false _ (c .before .if3 .left),
+  sym (c .before .before .before .before .count-is-ruled .ensures) ∙ not-false _ (c .before .before .before .if2 .left),
+  sym (c .before .before .before .before .before .before .size-is-allowed .ensures) ∙ not-false _ (c .before .before .before .before .before .if1 .left),
+)
 
 pub counters-are-ruled-spec : {M : Type 1} → statement M
 counters-are-ruled-spec = tie.close (tie.spec cast-size-is-allowed size-is-allowed-requires returns count-is-ruled-requires returns-2 window-is-ruled-requires returns-3 timer-is-ruled-requires returns-4)

@@ -18,7 +18,11 @@ down-is-ruled-requires c κs = search needs
 
 returns-2 : tie.Need-returns-2
 unfolding linkRule
-returns-2 c = simp (c .down-is-ruled .ensures, eq-eqb (c .before .before .before .before .before .args .c .link) 2 (c .before .if2 .taken), ne-eqb (c .before .before .before .before .before .args .c .link) 1 (c .before .before .before .if1 .left))
+returns-2 c = simp (
+  c .down-is-ruled .ensures,
+  eq-eqb (c .before .before .before .before .before .args .c .link) 2 (c .before .if2 .taken),
+  ne-eqb (c .before .before .before .before .before .args .c .link) 1 (c .before .before .before .if1 .left),
+)
 
 returns-3 : tie.Need-returns-3
 unfolding linkRule

@@ -16,11 +16,17 @@ sender-is-ruled-requires c κs = search needs
 
 returns-2 : tie.Need-returns-2
 unfolding senderChecks
-returns-2 c = simp (sym (c .before .sender-is-ruled .ensures) ∙ not-true _ (c .if2 .taken), ne-eqb (c .before .before .before .before .before .args .sender .counters .link) 2 (c .before .before .if1 .left))
+returns-2 c = simp (
+  sym (c .before .sender-is-ruled .ensures) ∙ not-true _ (c .if2 .taken),
+  ne-eqb (c .before .before .before .before .before .args .sender .counters .link) 2 (c .before .before .if1 .left),
+)
 
 returns-3 : tie.Need-returns-3
 unfolding senderChecks
-returns-3 c = simp (sym (c .before .sender-is-ruled .ensures) ∙ not-false _ (c .if2 .left), ne-eqb (c .before .before .before .before .before .args .sender .counters .link) 2 (c .before .before .if1 .left))
+returns-3 c = simp (
+  sym (c .before .sender-is-ruled .ensures) ∙ not-false _ (c .if2 .left),
+  ne-eqb (c .before .before .before .before .before .args .sender .counters .link) 2 (c .before .before .if1 .left),
+)
 
 pub sender-refusal-spec : {M : Type 1} → statement M
 sender-refusal-spec = tie.close (tie.spec returns sender-is-ruled-requires returns-2 returns-3)

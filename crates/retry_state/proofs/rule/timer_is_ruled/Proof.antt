@@ -25,14 +25,23 @@ returns-2 c = simp (sym (c .before .before .before .time-is-allowed .ensures) �
 
 returns-3 : tie.Need-returns-3
 unfolding timerRule
-returns-3 c = simp (lt-leb _ _ (c .if3 .taken), sym (c .before .before .before .before .before .time-is-allowed .ensures) ∙ not-false _ (c .before .before .before .before .if1 .left), lt-ltb 0 (c .before .before .before .before .before .before .before .args .c .timer) (omega arith))
+returns-3 c = simp (
+  lt-leb _ _ (c .if3 .taken),
+  sym (c .before .before .before .before .before .time-is-allowed .ensures) ∙ not-false _ (c .before .before .before .before .if1 .left),
+  lt-ltb 0 (c .before .before .before .before .before .before .before .args .c .timer) (omega arith),
+)
 
 link-is-ruled-requires : tie.Need-link-is-ruled-requires
 link-is-ruled-requires c κs = search needs
 
 returns-4 : tie.Need-returns-4
 unfolding timerRule
-returns-4 c = simp (c .link-is-ruled .ensures, le-leb _ _ (c .before .if3 .left), sym (c .before .before .before .before .before .before .time-is-allowed .ensures) ∙ not-false _ (c .before .before .before .before .before .if1 .left), lt-ltb 0 (c .before .before .before .before .before .before .before .before .args .c .timer) (omega arith))
+returns-4 c = simp (
+  c .link-is-ruled .ensures,
+  le-leb _ _ (c .before .if3 .left),
+  sym (c .before .before .before .before .before .before .time-is-allowed .ensures) ∙ not-false _ (c .before .before .before .before .before .if1 .left),
+  lt-ltb 0 (c .before .before .before .before .before .before .before .before .args .c .timer) (omega arith),
+)
 
 pub timer-is-ruled-spec : {M : Type 1} → statement M
 timer-is-ruled-spec = tie.close (tie.spec cast-time-is-allowed time-is-allowed-requires returns returns-2 returns-3 link-is-ruled-requires returns-4)
