@@ -1,7 +1,7 @@
 -- What reading a run comes to, by its refusals; and the run taken a character at a time.
 -- Assumes nothing.
 use mathlib.Core.Path.{_≡_, refl, sym, _∙_, ap, ap₂, subst}
-use mathlib.Core.Bool.{Bool, true, false, not, _&&_, _||_}
+use mathlib.Core.Bool.{Bool, true, false, not, _||_}
 use mathlib.Core.List.{List, [], _∷_, _++_, append-assoc, append-nil}
 use Prim.Native.Nat.{ℕ, zero, suc, _+_, _≤_, _<_}
 use native.Mathlib.Numerals.{add-one}
@@ -9,11 +9,11 @@ use native.Mathlib.Omega.{arith}
 use lib.Dec.{T, leb, ltb, ltb→lt}
 use lib.IntN.{ℤ}
 use lib.ListN.{length, take, drop, getD, set, length-set, take-append-drop}
-use lib.Seq.{drop-cons, drop-length, take-suc-set, drop-set-lt, drop-drop, append-snoc}
+use lib.Seq.{drop-cons, drop-length, take-suc-set, drop-set-lt, drop-drop}
 use borrow.Author.Tests.{lt-ltb, le-ltb}
 use Rattle.refusal.specs.Order.{Check, check, outcome, left}
 use Rattle.laws.specs.Lists.{allOf}
-use Rattle.laws.proofs.Bools.{and-left, and-right, T-true}
+use Rattle.laws.proofs.Bools.{and-left, and-right}
 use Rattle.character_rules.specs.Disparity.{isPlus, isDisparity, disparityOf}
 use Rattle.character_rules.specs.Answers.{RunReading, runRead, notRunRead}
 use Rattle.character_rules.specs.Reading.{reading}
@@ -50,23 +50,7 @@ module _ (cs : List ℕ) (d : ℤ) (out : List ℕ) where
   pub run-done : isDisparity d ≡ true → allOf inRange cs ≡ true → length cs ≤ length out → (runRead (runClosing cs d) ≡ runReading cs d (length out)) × (runResults cs d ++ drop (length cs) out ≡ runOutput cs d out)
   run-done e f h = by-tests e f (le-ltb (length out) (length cs) h)
 
--- ---- every character in range, one at a time
-
-module _ (cs : List ℕ) (i : ℕ) (so-far : allOf inRange cs ≡ allOf inRange (drop i cs)) where
-  range-here : i < length cs → allOf inRange cs ≡ (inRange (getD cs i 0) && allOf inRange (drop (suc i) cs))
-  range-here h = so-far ∙ ap (allOf inRange) (drop-cons cs i 0 h)
-
-  pub range-no : i < length cs → 1023 < getD cs i 0 → false ≡ allOf inRange cs
-  range-no h g = sym (range-here h ∙ ap (λ (b : Bool). b && allOf inRange (drop (suc i) cs)) (le-ltb (getD cs i 0) 1024 g))
-
-  pub range-on : i < length cs → getD cs i 0 ≤ 1023 → allOf inRange cs ≡ allOf inRange (drop (i + 1) cs)
-  range-on h g =
-      range-here h
-      ∙ ap (λ (b : Bool). b && allOf inRange (drop (suc i) cs)) (lt-ltb (getD cs i 0) 1024 (omega arith))
-      ∙ ap (λ (n : ℕ). allOf inRange (drop n cs)) (sym (add-one i))
-
-  pub range-end : i ≡ length cs → true ≡ allOf inRange cs
-  range-end e = sym (so-far ∙ ap (λ (n : ℕ). allOf inRange (drop n cs)) e ∙ ap (allOf inRange) (drop-length cs))
+-- ---- every character in range
 
 -- a run in range is in range at each place
 pub range-at : (cs : List ℕ) (i : ℕ) → T (allOf inRange cs) → i < length cs → getD cs i 0 < 1024
