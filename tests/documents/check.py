@@ -2,7 +2,8 @@
 """Every name that a document puts between backticks is there: a crate, a file, an edit, or a word of the sources.
 
 Fails, naming document, line and name. A row that names a theorem, a definition or an edit that is gone is found here; that
-the named thing says what the row says is for the reader.
+the named thing says what the row says is for the reader. Fails too where docs/TRUST.md counts a crate's lines of definition
+otherwise than they are, or has no row for a crate of rules.
 """
 import pathlib
 import re
@@ -54,8 +55,25 @@ def missing(span, known):
             yield token
 
 
+def definitions(crate):
+    """Lines of definition of a crate: those of specs/ without comments, imports and lists of modules."""
+    lines = [line.strip() for path in (crate / "specs").rglob("*.antt") for line in path.read_text(encoding="utf-8").split("\n")]
+    return sum(1 for line in lines if line and not line.startswith(("--", "use ", "pub mod ")))
+
+
+def counted():
+    """Faults of the table in docs/TRUST.md."""
+    said = dict(re.findall(r"^\| `(\w+)` \| (\d+) \|", (ROOT / "docs" / "TRUST.md").read_text(encoding="utf-8"), re.M))
+    for crate in sorted((ROOT / "crates").iterdir()):
+        lines = definitions(crate)
+        if crate.name in said and int(said[crate.name]) != lines:
+            yield f"docs/TRUST.md: {crate.name} has {lines} lines of definition and not {said[crate.name]}"
+        if crate.name.endswith("_rules") and crate.name not in said:
+            yield f"docs/TRUST.md: no row for {crate.name}, {lines} lines"
+
+
 def main():
-    known, faults = words(), []
+    known, faults = words(), list(counted())
     for name in DOCUMENTS:
         for number, span in spans((ROOT / name).read_text(encoding="utf-8")):
             faults += [f"{name}:{number}: `{span}`: {token} is nowhere in the tree" for token in missing(span, known)]
