@@ -24,7 +24,9 @@ again-of : (p : Bool) → again (disparityOf p) ≡ disparityOf p
 again-of true = refl
 again-of false = refl
 
-module _ (capture : List ℕ) (r : Reader) (d : ℤ) (old : List ℕ) (l : legal capture ≡ true) (h : wellFormed r ≡ true) (t : isDisparity d ≡ true) (fits : characterCount (length capture) ≤ length old) (p : Bool) (hp : p ≡ isPlus d) (q : Bool) (s : Reader) (new : List ℕ) (ran : Ran (charactersOf capture) 0 p r old (characterCount (length capture)) q s new) (e : ℤ) (he : e ≡ disparityOf q) where
+module _ (capture : List ℕ) (r : Reader) (d : ℤ) (old : List ℕ) (l : legal capture ≡ true) (h : wellFormed r ≡ true) (t : isDisparity d ≡ true)
+    (fits : characterCount (length capture) ≤ length old) (p : Bool) (hp : p ≡ isPlus d) (q : Bool) (s : Reader) (new : List ℕ)
+    (ran : Ran (charactersOf capture) 0 p r old (characterCount (length capture)) q s new) (e : ℤ) (he : e ≡ disparityOf q) where
   all : characterCount (length capture) ≡ length (charactersOf capture)
   all = sym (characters-length capture)
 

@@ -82,7 +82,8 @@ module _ (cs : List ℕ) (until i : ℕ) (p : Bool) (c : ℕ) (old : List ℕ) (
         runs = λ f feeds ok. subst (λ (k : ℕ). Ran cs i p (f 0 c) old i p (f k c) old) none (ran-none cs i p (f 0 c) old (omega arith) ok);
       }
 
-  module _ (j : ℕ) (q : Bool) (x : ℕ) (out : List ℕ) (n : ℕ) (fed : Fed cs until i p c old j q x out) (h : j < until) (g : getD cs j 0 < 1024) (fits : length cs ≤ length out) (is : n ≡ packed (reading (getD cs j 0) (disparityOf q))) (data-result : n % 2048 < 256) where
+  module _ (j : ℕ) (q : Bool) (x : ℕ) (out : List ℕ) (n : ℕ) (fed : Fed cs until i p c old j q x out) (h : j < until) (g : getD cs j 0 < 1024)
+      (fits : length cs ≤ length out) (is : n ≡ packed (reading (getD cs j 0) (disparityOf q))) (data-result : n % 2048 < 256) where
     result : reading (getD cs j 0) (disparityOf q) ≡ clean (dataSymbol (n % 256)) (packedDisparity n)
     result = sym (unpacked-reading (getD cs j 0) (disparityOf q) (omega arith) (disparity-is q)) ∙ ap unpacked (sym is) ∙ clean-data n data-result
 
@@ -98,7 +99,8 @@ module _ (cs : List ℕ) (until i : ℕ) (p : Bool) (c : ℕ) (old : List ℕ) (
           room = length-set out j (262144 + n % 256) ∙ fed .room;
           runs = λ f feeds ok.
               let ran = fed .runs f feeds ok in
-              let said : stepOf (f (j - i) x) (reading (getD cs j 0) (disparityOf q)) ≡ gives (gaveByte (n % 256)) (f ((j - i) + 1) (crcByte x (n % 256))) = ap (stepOf (f (j - i) x)) result ∙ feeds (j - i) x (n % 256) (packedDisparity n) (omega arith) (ran .rule) in
+              let said : stepOf (f (j - i) x) (reading (getD cs j 0) (disparityOf q)) ≡ gives (gaveByte (n % 256)) (f ((j - i) + 1) (crcByte x (n % 256))) =
+              ap (stepOf (f (j - i) x)) result ∙ feeds (j - i) x (n % 256) (packedDisparity n) (omega arith) (ran .rule) in
               ran-then cs ran
               (ran-one cs j q (f (j - i) x) out n (262144 + n % 256) (f ((j + 1) - i) (crcByte x (n % 256))) (omega arith) g fits (ran .rule) is
               (sym (ap (λ (y : Answer). packedEvent (y .said)) said))

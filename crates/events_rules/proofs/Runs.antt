@@ -90,7 +90,10 @@ module _ (cs : List ℕ) where
 
   -- ---- one character, its packed result and its event
 
-  module _ (i : ℕ) (p : Bool) (r : Reader) (out : List ℕ) (n e : ℕ) (s : Reader) (h : i < length cs) (g : getD cs i 0 < 1024) (fits : length cs ≤ length out) (ok : wellFormed r ≡ true) (result : n ≡ packed (reading (getD cs i 0) (disparityOf p))) (event : e ≡ packedEvent (stepOf r (reading (getD cs i 0) (disparityOf p)) .said)) (state : s ≡ stepOf r (reading (getD cs i 0) (disparityOf p)) .reader) where
+  module _ (i : ℕ) (p : Bool) (r : Reader) (out : List ℕ) (n e : ℕ) (s : Reader) (h : i < length cs) (g : getD cs i 0 < 1024)
+      (fits : length cs ≤ length out) (ok : wellFormed r ≡ true) (result : n ≡ packed (reading (getD cs i 0) (disparityOf p)))
+      (event : e ≡ packedEvent (stepOf r (reading (getD cs i 0) (disparityOf p)) .said))
+      (state : s ≡ stepOf r (reading (getD cs i 0) (disparityOf p)) .reader) where
     -- the disparity that the next character is read at
     next : afterOne (getD cs i 0) (disparityOf p) ≡ disparityOf (leb 2048 n)
     next =

@@ -26,7 +26,8 @@ use Rattle.capture_rules.proofs.Packing.{characters-length}
 use Rattle.packet_rules.specs.Line.{saidOf, afterOf}
 use Rattle.listing_rules.specs.declared.Reached.{Reached}
 use Rattle.listing_rules.specs.declared.Listing.the-variants.{Going, Ended}
-use Rattle.listing_rules.specs.Lines.{readingsOf, linesFrom, eventsIn, endLine}
+use Rattle.events_rules.specs.Events.{readingsOf}
+use Rattle.listing_rules.specs.Lines.{linesFrom, eventsIn, endLine}
 use Rattle.listing_rules.specs.Pieces.{wrote, keepsRule, nextCharacters, saidOfRun, afterRun, isGoing, pieceOf, listingAfter, doneSays}
 use Rattle.listing_rules.proofs.Whole.{rule-disparity, nexts-range}
 use Rattle.listing.specs.declared.Progress.{Progress}

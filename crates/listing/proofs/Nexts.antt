@@ -14,6 +14,7 @@ use Rattle.packet_rules.specs.declared.Reader.{Reader}
 use Rattle.packet_rules.specs.declared.FreshReader.{FreshReader}
 use Rattle.packet_rules.specs.declared.FreshReader.the-variants.{Ready, Refused as NotMade}
 use Rattle.packet_rules.specs.Answers.{Made, made, freshSays}
+use Rattle.segment_size.specs.Sizes.{sizeAllowed}
 use Rattle.packet_rules.specs.State.{fresh, freshReader}
 use Rattle.listing_rules.specs.declared.Reached.{Reached}
 use Rattle.listing_rules.specs.declared.Listing.{Listing}
@@ -42,7 +43,7 @@ module _ (capture old new : List ℕ) (n : ℕ) where
 
   module _ (f : FreshReader) (e : freshSays f ≡ freshReader 8) where
     fresh-made : freshSays f ≡ made (fresh 8)
-    unfolding freshReader
+    unfolding freshReader sizeAllowed
     fresh-made = e
 
     abbrev readerIn : Reader → Option Reader → Reader

@@ -6,7 +6,6 @@ use listing_rules::Listing;
 use listing_rules::Next;
 use listing_rules::Piece;
 use listing_rules::Reached;
-use packet_rules::Event;
 use packet_rules::FreshReader;
 use packet_rules::Reader;
 ghost use mathlib.Core.Path.{_≡_};
@@ -15,7 +14,6 @@ ghost use Prim.Native.Nat.{_≤_, _<_};
 ghost use mathlib.Core.List.{_++_};
 ghost use lib.ListN.{length, drop};
 ghost use Rattle.capture_rules.specs.Capture.{legal, characterCount};
-ghost use Rattle.packet_rules.specs.State.{wellFormed};
 ghost use Rattle.listing_rules.specs.Pieces.{says, keepsRule, pieceOf, listingAfter, doneSays, nextSays, nextLeaves};
 ghost use Rattle.listing_rules.specs.declared.Listing.the-variants.{Fresh as IsFresh, Going as IsGoing};
 
@@ -24,24 +22,6 @@ pub struct Progress {
     pub at: usize,
     pub events: usize,
     pub reader: Reader,
-}
-
-// Whether a reader keeps its rule: a step with an invalid character is refused exactly if not.
-fn reader_keeps_rule(r: Reader) -> bool
-    ensures { λ b. ⌜ b ≡ wellFormed r ⌝ }
-{
-    let s = packet_reader::step(r, character_rules::Decoded::Invalid(1));
-    let event = s.event;
-    match event {
-        Event::Nothing => true,
-        Event::StartData(_) => true,
-        Event::StartPriority { .. } => true,
-        Event::Byte(_) => true,
-        Event::End { .. } => true,
-        Event::Lmp { .. } => true,
-        Event::Violation(_) => true,
-        Event::Refused(_) => false,
-    }
 }
 
 // The rule of a listing that goes on.
@@ -55,7 +35,7 @@ fn keeps_rule(p: Reached) -> bool
         return false;
     }
     let reader = p.reader;
-    reader_keeps_rule(reader)
+    packet_state::is_well_formed(reader)
 }
 
 // The header, or the one line of a refused capture.

@@ -20,7 +20,8 @@ use Rattle.packet_rules.specs.Violations.{violationOf}
 use Rattle.packet_rules.specs.Step.{broken, dropped, readOf, stepOf}
 use Rattle.packet_rules.specs.Line.{saidOf}
 use Rattle.listing_rules.specs.Text.{decimal}
-use Rattle.listing_rules.specs.Lines.{fieldsOf, eventLine, listed, linesFrom, eventsIn, readingsOf, listingOf}
+use Rattle.events_rules.specs.Events.{readingsOf}
+use Rattle.listing_rules.specs.Lines.{fieldsOf, eventLine, listed, linesFrom, eventsIn, listingOf}
 
 -- place event detail; 1 violation 9; end 2 1
 pub document-example : listingOf (0x3D ∷ 0x2A ∷ 0xA0 ∷ []) ≡ 112 ∷ 108 ∷ 97 ∷ 99 ∷ 101 ∷ 32 ∷ 101 ∷ 118 ∷ 101 ∷ 110 ∷ 116 ∷ 32 ∷ 100 ∷ 101 ∷ 116 ∷ 97 ∷ 105 ∷ 108 ∷ 10 ∷ 49 ∷ 32 ∷ 118 ∷ 105 ∷ 111 ∷ 108 ∷ 97 ∷ 116 ∷ 105 ∷ 111 ∷ 110 ∷ 32 ∷ 57 ∷ 10 ∷ 101 ∷ 110 ∷ 100 ∷ 32 ∷ 50 ∷ 32 ∷ 49 ∷ 10 ∷ []

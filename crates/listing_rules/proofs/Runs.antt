@@ -14,7 +14,8 @@ use Rattle.packet_rules.specs.declared.Reader.{Reader}
 use Rattle.packet_rules.specs.Answers.{Said}
 use Rattle.packet_rules.specs.Step.{stepOf}
 use Rattle.packet_rules.specs.Line.{saidOf, afterOf}
-use Rattle.listing_rules.specs.Lines.{fieldsOf, eventLine, listed, linesFrom, eventsIn, readingsOf}
+use Rattle.events_rules.specs.Events.{readingsOf}
+use Rattle.listing_rules.specs.Lines.{fieldsOf, eventLine, listed, linesFrom, eventsIn}
 
 pub readings-append : (cs ds : List ℕ) (d : ℤ) → readingsOf (cs ++ ds) d ≡ readingsOf cs d ++ readingsOf ds (runClosing cs d)
 unfolding readingsOf

@@ -31,7 +31,8 @@ use Rattle.character_rules.specs.Answers.{Reading}
 use Rattle.listing_rules.specs.declared.Reached.{Reached}
 use Rattle.listing_rules.specs.declared.Listing.{Listing}
 use Rattle.listing_rules.specs.declared.Listing.the-variants.{Fresh, Going, Ended}
-use Rattle.listing_rules.specs.Lines.{readingsOf, linesFrom, eventsIn, header, endLine, refusedLine, saidOfCapture, listingOf}
+use Rattle.events_rules.specs.Events.{readingsOf}
+use Rattle.listing_rules.specs.Lines.{linesFrom, eventsIn, header, endLine, refusedLine, saidOfCapture, listingOf}
 use Rattle.listing_rules.specs.Pieces.{wrote, keepsRule, start, nextCharacters, saidOfRun, afterRun, isGoing, pieceOf, listingAfter, nextChecks, doneSays, nextSays, nextLeaves}
 use Rattle.listing_rules.specs.Demand.{Lister, HandsOut, all, piece, Lists}
 use Rattle.listing_rules.proofs.Runs.{readings-append, said-append, lines-append, events-append, length-readings, length-said, events-few}

@@ -3,15 +3,13 @@ use Prim.Native.Nat.{ℕ, _+_}
 use mathlib.Core.Bool.{Bool, cond}
 use mathlib.Core.List.{List, [], _∷_, _++_}
 use mathlib.Core.Option.{Option, none, some}
-use lib.IntN.{ℤ, negsuc}
+use lib.IntN.{negsuc}
 use lib.ListN.{length}
-use Rattle.character_rules.specs.Answers.{Reading}
-use Rattle.character_rules.specs.Reading.{reading}
-use Rattle.character_rules.specs.Results.{afterOne}
 use Rattle.capture_rules.specs.Capture.{charactersOf, legal}
 use Rattle.packet_rules.specs.Answers.{Said, Start, Reply}
 use Rattle.packet_rules.specs.State.{fresh}
 use Rattle.packet_rules.specs.Line.{saidOf}
+use Rattle.events_rules.specs.Events.{readingsOf}
 use Rattle.listing_rules.specs.Text.{decimal, line, placeWord, eventWord, detailWord, violationWord, startWord, endWord, lmpWord, dataWord, priorityWord, goodWord, badWord, ackWord, nackWord, refusedWord}
 
 -- ---- the event's word and its detail, as fields; none for nothing and for a byte
@@ -73,11 +71,6 @@ abbrev pub refusedLine : List ℕ
 refusedLine = line refusedWord (decimal 8 ∷ [])
 
 -- ---- THE LISTING
-
--- characters, each read at the disparity that the one before it gave
-unfoldable pub readingsOf : List ℕ → ℤ → List Reading
-readingsOf [] d = []
-readingsOf (c ∷ cs) d = reading c d ∷ readingsOf cs (afterOne c d)
 
 -- what a fresh reader with S = 8 says of a capture, from −1
 abbrev pub saidOfCapture : List ℕ → List Said

@@ -21,7 +21,8 @@ use Rattle.listing_rules.specs.declared.Listing.the-variants.{Fresh, Goi
 use Rattle.listing_rules.specs.declared.Piece.{Piece}
 use Rattle.listing_rules.specs.declared.Piece.the-variants.{Written, Nothing, Refused}
 use Rattle.listing_rules.specs.declared.Next.{Next}
-use Rattle.listing_rules.specs.Lines.{readingsOf, linesFrom, eventsIn, header, endLine, refusedLine}
+use Rattle.events_rules.specs.Events.{readingsOf}
+use Rattle.listing_rules.specs.Lines.{linesFrom, eventsIn, header, endLine, refusedLine}
 
 -- ---- what an answer says: the refusal's number, if it was refused; how many bytes were written, where a piece was; the listing after it
 

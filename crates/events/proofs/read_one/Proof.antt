@@ -3,6 +3,7 @@
 use mathlib.Core.Path.{_≡_, refl, sym, ap, subst, _∙_}
 use Prim.Native.Nat.{ℕ, _<_}
 use native.Mathlib.Omega.{arith}
+use borrow.Author.Needs.{needs}
 use lib.ListN.{getD}
 use Rattle.laws.proofs.Groups.{getD-below}
 use Rattle.character_rules.specs.Disparity.{disparityOf}
@@ -15,7 +16,6 @@ use Rattle.packet_rules.specs.Answers.{Answer}
 use Rattle.packet_rules.specs.Step.{stepOf}
 use Rattle.events_rules.specs.Numbers.{packedEvent}
 use Rattle.events_rules.proofs.Runs.{disparity-is, ran-one}
-use borrow.Author.Needs.{needs}
 use Rattle.events.proofs.read_one.Statement.{statement}
 use Rattle.events.proofs.read_one.Tie as tie
 
@@ -23,8 +23,11 @@ ten-bits-requires : tie.Need-ten-bits-requires
 ten-bits-requires c κs = search needs
 
 look-up-requires : tie.Need-look-up-requires
-look-up-requires c κs = let a = c .before .before .before .before .args in
-    (c .before .before .before .before .pre .0, subst (λ (n : ℕ). n < 1024) (sym (c .ten-bits .ensures)) (getD-below 1024 (charactersOf (a .capture .now)) (omega arith) (characters-below (a .capture .now)) (a .from .at)))
+look-up-requires c κs =
+    let ten = c .ten-bits in
+    let s = c .before .before .before .before in
+    let low = getD-below 1024 (charactersOf (s .args .capture .now)) (omega arith) (characters-below (s .args .capture .now)) (s .args .from .at) in
+    (s .pre .0, subst (λ (n : ℕ). n < 1024) (sym (ten .ensures)) low)
 
 turn-requires : tie.Need-turn-requires
 turn-requires c κs = search needs
@@ -45,30 +48,35 @@ same-length : tie.Need-same-length
 same-length c = search needs
 
 returns : tie.Need-returns
-returns c = let a = c .before .before .before .before .before .before .before .before .args in
+returns c =
+    let number = c .event-number in
+    let turned = c .before .before .turn in
+    let found = c .before .before .before .look-up in
+    let ten = c .before .before .before .before .ten-bits in
+    let s = c .before .before .before .before .before .before .before .before in
+    let a = s .args in
     let cs = charactersOf (a .capture .now) in
     let i = a .from .at in
     let p = a .from .plus in
     let r = a .from .reader in
-    let low = getD-below 1024 cs (omega arith) (characters-below (a .capture .now)) i in
+    let low = getD-below 1024 (charactersOf (s .args .capture .now)) (omega arith) (characters-below (s .args .capture .now)) (s .args .from .at) in
     let long = characters-length (a .capture .now) in
-    let h = c .before .before .before .before .before .before .before .before .pre .2 in
-    let f = c .before .before .before .before .before .before .before .before .pre .3 in
-    let n = c .before .before .before .look-up .result in
-    let is : n ≡ packed (reading (getD cs i 0) (disparityOf p)) = c .before .before .before .look-up .ensures ∙ ap (λ (k : ℕ). packed (reading k (disparityOf p))) (c .before .before .before .before .ten-bits .ensures) in
-    let said = c .before .before .turn .ensures ∙ ap (stepOf r) (ap unpacked is ∙ unpacked-reading (getD cs i 0) (disparityOf p) (omega arith) (disparity-is p)) in
-    (ran-one cs i p r (a .events .now) n (c .event-number .result) (c .before .before .turn .result .reader) (omega arith) low (omega arith) (c .before .before .before .before .before .before .before .before .pre .4) is (c .event-number .ensures ∙ ap (λ (x : Answer). packedEvent (x .said)) said) (ap (λ (x : Answer). x .reader) said), refl)
+    let h = s .pre .2 in
+    let f = s .pre .3 in
+    let is : found .result ≡ packed (reading (getD cs i 0) (disparityOf p)) =
+    found .ensures ∙ ap (λ (k : ℕ). packed (reading k (disparityOf p))) (ten .ensures) in
+    let said =
+    turned .ensures ∙ ap (stepOf r) (ap unpacked is ∙ unpacked-reading (getD cs i 0) (disparityOf p) (omega arith) (disparity-is p)) in
+    let event = number .ensures ∙ ap (λ (x : Answer). packedEvent (x .said)) said in
+    let state = ap (λ (x : Answer). x .reader) said in (
+      ran-one cs i p r (a .events .now) (found .result) (number .result) (turned .result .reader) (omega arith) low (omega arith)
+          (s .pre .4) is event state,
+      refl,
+    )
 
 pub read-one-spec : {M : Type 1} → statement M
 read-one-spec =
     tie.close
     (tie.spec
-    ten-bits-requires
-    look-up-requires
-    turn-requires
-    event-number-requires
-    mul-events
-    slice-write-events
-    add-t13
-    same-length
+    ten-bits-requires look-up-requires turn-requires event-number-requires mul-events slice-write-events add-t13 same-length
     returns)

@@ -19,13 +19,13 @@ is-disparity-requires c κs = search needs
 returns-2 : tie.Need-returns-2
 returns-2 c = no-disparity (c .before .before .before .before .before .args .p) (c .before .before .before .if1 .left) (ap isDisparity (sym (toZ-ofZ {w = w32} {z = c .before .before .before .before .before .args .p .disparity} (record { sfits = c .before .before .struct-told .given .1 .1 .0 .1 }))) ∙ sym (c .before .is-disparity .ensures) ∙ not-true _ (c .if2 .taken))
 
-reader-keeps-rule-requires : tie.Need-reader-keeps-rule-requires
-reader-keeps-rule-requires c κs = search needs
+is-well-formed-requires : tie.Need-is-well-formed-requires
+is-well-formed-requires c κs = search needs
 
 returns-3 : tie.Need-returns-3
-returns-3 c = by-reader (c .before .before .before .before .before .before .before .args .p) (c .before .before .before .before .before .if1 .left) _ (ap isDisparity (sym (toZ-ofZ {w = w32} {z = c .before .before .before .before .before .before .before .args .p .disparity} (record { sfits = c .before .before .before .before .struct-told .given .1 .1 .0 .1 }))) ∙ sym (c .before .before .before .is-disparity .ensures) ∙ not-false _ (c .before .before .if2 .left)) (c .reader-keeps-rule .ensures)
+returns-3 c = by-reader (c .before .before .before .before .before .before .before .args .p) (c .before .before .before .before .before .if1 .left) _ (ap isDisparity (sym (toZ-ofZ {w = w32} {z = c .before .before .before .before .before .before .before .args .p .disparity} (record { sfits = c .before .before .before .before .struct-told .given .1 .1 .0 .1 }))) ∙ sym (c .before .before .before .is-disparity .ensures) ∙ not-false _ (c .before .before .if2 .left)) (c .is-well-formed .ensures)
 
 pub keeps-rule-spec : {M : Type 1} → statement M
 keeps-rule-spec =
     tie.close
-    (tie.spec returns is-disparity-requires returns-2 reader-keeps-rule-requires returns-3)
+    (tie.spec returns is-disparity-requires returns-2 is-well-formed-requires returns-3)

@@ -40,7 +40,8 @@ same-length c = c .before .before .before .take-bytes .ensures .room
 
 returns : tie.Need-returns
 returns c = let a = c .before .before .before .before .before .before .before .before .args in
-    priority-ran (charactersOf (a .capture .now)) (a .from .at + c .before .before .before .before .before .lesser .result) (a .from .at) (a .from .plus) (a .from .register) (a .events .now) _ _ _ _ (c .before .before .before .take-bytes .ensures)
+    priority-ran (charactersOf (a .capture .now)) (a .from .at + c .before .before .before .before .before .lesser .result) (a .from .at) (a .from .plus) (a .from .register) (a .events .now) _ _ _ _
+    (c .before .before .before .take-bytes .ensures)
     (a .size) (a .packet) (a .opening) (a .count) (omega arith) (c .before .before .before .before .before .before .before .before .pre .6)
 
 pub priority-bytes-spec : {M : Type 1} → statement M

@@ -1,9 +1,9 @@
 -- Each clean data symbol is one byte more.
 -- Assumes nothing.
 use borrow.Author.Needs.{needs}
+use native.Mathlib.Omega.{arith}
 use mathlib.Core.Path.{_≡_, sym, ap, subst, _∙_}
 use Prim.Native.Nat.{ℕ, _+_, _-_, _%_, _<_}
-use native.Mathlib.Omega.{arith}
 use lib.Dec.{leb}
 use lib.ListN.{set}
 use Rattle.laws.proofs.Groups.{getD-below}
@@ -24,22 +24,35 @@ abbrev μ-loop : tie.MeasureT-loop
 μ-loop entries crcs capture until events₀ plus₀ register₀ at₀ events plus register at = until - at
 
 loop-holds : tie.Need-loop-holds Inv-loop μ-loop
-loop-holds c = let a = c .before .before .args in
+loop-holds c =
+    let s = c .before .before in
+    let a = s .args in
+    let from = a .from in
     let long = characters-length (a .capture .now) in
-    fed-none (charactersOf (a .capture .now)) (a .until) (a .from .at) (a .from .plus) (a .from .register) (a .events .now) (omega arith) (c .before .before .pre .4)
+    fed-none (charactersOf (a .capture .now)) (a .until) (from .at) (from .plus) (from .register) (a .events .now) (omega arith) (s .pre .4)
 
 ten-bits-requires : tie.Need-ten-bits-requires Inv-loop μ-loop
-ten-bits-requires c κs = (c .before .before .before .before .pre .1, omega arith)
+ten-bits-requires c κs =
+    let s = c .before .before .before .before in
+    (s .pre .1, omega arith)
 
 look-up-requires : tie.Need-look-up-requires Inv-loop μ-loop
-look-up-requires c κs = let a = c .before .before .before .before .before .args in
-    (c .before .before .before .before .before .pre .0, subst (λ (n : ℕ). n < 1024) (sym (c .ten-bits .ensures)) (getD-below 1024 (charactersOf (a .capture .now)) (omega arith) (characters-below (a .capture .now)) (c .before .before .loop .at)))
+look-up-requires c κs =
+    let ten = c .ten-bits in
+    let l = c .before .before .loop in
+    let s = c .before .before .before .before .before in
+    let low = getD-below 1024 (charactersOf (s .args .capture .now)) (omega arith) (characters-below (s .args .capture .now)) (l .at) in
+    (s .pre .0, subst (λ (n : ℕ). n < 1024) (sym (ten .ensures)) low)
 
 same-length : tie.Need-same-length Inv-loop μ-loop
-same-length c = c .before .before .before .before .loop .inv .room
+same-length c =
+    let l = c .before .before .before .before .loop in
+    l .inv .room
 
 returns : tie.Need-returns Inv-loop μ-loop
-returns c = c .before .before .before .before .loop .inv
+returns c =
+    let l = c .before .before .before .before .loop in
+    l .inv
 
 cast-events : tie.Need-cast-events Inv-loop μ-loop
 cast-events c = search needs
@@ -48,16 +61,22 @@ add-events : tie.Need-add-events Inv-loop μ-loop
 add-events c = omega arith
 
 mul-events : tie.Need-mul-events Inv-loop μ-loop
-mul-events c = let r = c .before .before .before .before .loop .inv .room in omega arith
+mul-events c =
+    let l = c .before .before .before .before .loop in
+    let r = l .inv .room in omega arith
 
 slice-write-events : tie.Need-slice-write-events Inv-loop μ-loop
-slice-write-events c = let r = c .before .before .before .before .loop .inv .room in omega arith
+slice-write-events c =
+    let l = c .before .before .before .before .loop in
+    let r = l .inv .room in omega arith
 
 cast-step-by : tie.Need-cast-step-by Inv-loop μ-loop
 cast-step-by c = search needs
 
 step-by-requires : tie.Need-step-by-requires Inv-loop μ-loop
-step-by-requires c κs = c .before .before .before .before .before .before .before .pre .5
+step-by-requires c κs =
+    let s = c .before .before .before .before .before .before .before in
+    s .pre .5
 
 add-at : tie.Need-add-at Inv-loop μ-loop
 add-at c = omega arith
@@ -66,40 +85,42 @@ loop-less : tie.Need-loop-less Inv-loop μ-loop
 loop-less c = omega arith
 
 loop-again : tie.Need-loop-again Inv-loop μ-loop
-loop-again c = let a = c .before .before .before .before .before .before .before .before .args in
+loop-again c =
+    let stepped = c .step-by in
+    let one = c .before .if1 in
+    let found = c .before .before .look-up in
+    let ten = c .before .before .before .ten-bits in
+    let test = c .before .before .before .before .loop-test in
     let l = c .before .before .before .before .before .loop in
+    let s = c .before .before .before .before .before .before .before .before in
+    let a = s .args in
+    let from = a .from in
     let cs = charactersOf (a .capture .now) in
+    let n = found .result in
+    let low = getD-below 1024 (charactersOf (s .args .capture .now)) (omega arith) (characters-below (s .args .capture .now)) (l .at) in
     let long = characters-length (a .capture .now) in
     let room = l .inv .room in
-    let is = c .before .before .look-up .ensures ∙ ap (λ (k : ℕ). packed (reading k (disparityOf (l .plus)))) (c .before .before .before .ten-bits .ensures) in
-    let fed = fed-one cs (a .until) (a .from .at) (a .from .plus) (a .from .register) (a .events .now) (omega arith) (l .at) (l .plus) (l .register) (l .events) (c .before .before .look-up .result) (l .inv) (c .before .before .before .before .loop-test .taken) (getD-below 1024 (charactersOf (a .capture .now)) (omega arith) (characters-below (a .capture .now)) (c .before .before .before .before .before .loop .at)) (omega arith) is (c .before .if1 .left) in
-    subst (λ (x : ℕ). Fed cs (a .until) (a .from .at) (a .from .plus) (a .from .register) (a .events .now) (l .at + 1) (leb 2048 (c .before .before .look-up .result)) x (set (l .events) (l .at) (262144 + c .before .before .look-up .result % 256))) (sym (c .step-by .ensures)) fed
+    let is = found .ensures ∙ ap (λ (k : ℕ). packed (reading k (disparityOf (l .plus)))) (ten .ensures) in
+    let fed =
+    fed-one cs (a .until) (from .at) (from .plus) (from .register) (a .events .now) (omega arith) (l .at) (l .plus) (l .register)
+    (l .events) n (l .inv) (test .taken) low (omega arith) is (one .left) in
+    let new = set (l .events) (l .at) (262144 + n % 256) in
+    subst (λ (x : ℕ). Fed cs (a .until) (from .at) (from .plus) (from .register) (a .events .now) (l .at + 1) (leb 2048 n) x new)
+    (sym (stepped .ensures)) fed
 
 same-length-2 : tie.Need-same-length-2 Inv-loop μ-loop
-same-length-2 c = c .before .loop .inv .room
+same-length-2 c =
+    let l = c .before .loop in
+    l .inv .room
 
 returns-2 : tie.Need-returns-2 Inv-loop μ-loop
-returns-2 c = c .before .loop .inv
+returns-2 c =
+    let l = c .before .loop in
+    l .inv
 
 pub take-bytes-spec : {M : Type 1} → statement M
 take-bytes-spec =
     tie.close
-    (tie.spec
-    Inv-loop
-    μ-loop
-    loop-holds
-    ten-bits-requires
-    look-up-requires
-    same-length
-    returns
-    cast-events
-    add-events
-    mul-events
-    slice-write-events
-    cast-step-by
-    step-by-requires
-    add-at
-    loop-less
-    loop-again
-    same-length-2
-    returns-2)
+    (tie.spec Inv-loop μ-loop
+    loop-holds ten-bits-requires look-up-requires same-length returns cast-events add-events mul-events slice-write-events
+    cast-step-by step-by-requires add-at loop-less loop-again same-length-2 returns-2)

@@ -24,17 +24,28 @@ enum-known-packet : tie.Need-enum-known-packet
 enum-known-packet c = search needs
 
 data-bytes-requires : tie.Need-data-bytes-requires
-data-bytes-requires c κs = let s = c .before .before .before .before .before .before .before .before .before .before .before .before .pre in
-    let a = c .before .before .before .before .before .before .before .before .before .before .before .before .args in
-    (s .0, s .1, s .2, s .3, s .4, sym (ap wellFormed (begun-data (a .from .reader) _ _ _ (c .before .before .before .packet .given .1) (c .before .if1 .taken) (c .before .before .before .before .before .enum-told2 .given .1) (c .before .before .before .before .before .before .before .enum-told .given .1))) ∙ s .5, s .6)
+data-bytes-requires c κs =
+    let one = c .before .if1 in
+    let opened = c .before .before .before .packet in
+    let told2 = c .before .before .before .before .before .enum-told2 in
+    let told = c .before .before .before .before .before .before .before .enum-told in
+    let s = c .before .before .before .before .before .before .before .before .before .before .before .before in
+    let is = begun-data (s .args .from .reader) _ _ _ (opened .given .1) (one .taken) (told2 .given .1) (told .given .1) in
+    let q = s .pre in
+    (q .0, q .1, q .2, q .3, q .4, sym (ap wellFormed is) ∙ q .5, q .6)
 
 enum-known-priority : tie.Need-enum-known-priority
 enum-known-priority c = search needs
 
 priority-bytes-requires : tie.Need-priority-bytes-requires
-priority-bytes-requires c κs = let s = c .before .before .before .before .before .before .before .before .before .before .pre in
-    let a = c .before .before .before .before .before .before .before .before .before .before .args in
-    (s .0, s .1, s .2, s .3, s .4, c .before .if2 .taken, sym (ap wellFormed (by-parts (a .from .reader) refl (c .before .before .before .priority .given .1) (c .before .before .before .before .before .enum-told .given .1))) ∙ s .5, s .6)
+priority-bytes-requires c κs =
+    let two = c .before .if2 in
+    let inner = c .before .before .before .priority in
+    let told = c .before .before .before .before .before .enum-told in
+    let s = c .before .before .before .before .before .before .before .before .before .before in
+    let is = by-parts (s .args .from .reader) refl (inner .given .1) (told .given .1) in
+    let q = s .pre in
+    (q .0, q .1, q .2, q .3, q .4, two .taken, sym (ap wellFormed is) ∙ q .5, q .6)
 
 enum-told-4 : tie.Need-enum-told-4
 enum-told-4 c = search needs
@@ -46,50 +57,95 @@ enum-told-6 : tie.Need-enum-told-6
 enum-told-6 c = search needs
 
 returns : tie.Need-returns
-returns c = let a = c .before .before .before .before .before .before .before .before .before .args in
+returns c =
+    let s = c .before .before .before .before .before .before .before .before .before in
+    let a = s .args in
+    let from = a .from in
     let long = characters-length (a .capture .now) in
-    ran-none (charactersOf (a .capture .now)) (a .from .at) (a .from .plus) (a .from .reader) (a .events .now) (omega arith) (c .before .before .before .before .before .before .before .before .before .pre .5)
+    ran-none (charactersOf (a .capture .now)) (from .at) (from .plus) (from .reader) (a .events .now) (omega arith) (s .pre .5)
 
 same-length : tie.Need-same-length
-same-length c = c .before .before .data-bytes .ensures .room
+same-length c =
+    let run = c .before .before .data-bytes in
+    run .ensures .room
 
 returns-2 : tie.Need-returns-2
-returns-2 c = let a = c .before .before .before .before .before .before .before .before .before .before .before .before .before .before .before .args in
+returns-2 c =
+    let run = c .before .before .data-bytes in
+    let one = c .before .before .before .before .if1 in
+    let opened = c .before .before .before .before .before .before .packet in
+    let told2 = c .before .before .before .before .before .before .before .before .enum-told2 in
+    let told = c .before .before .before .before .before .before .before .before .before .before .enum-told in
+    let s = c .before .before .before .before .before .before .before .before .before .before .before .before .before .before .before in
+    let is = begun-data (s .args .from .reader) _ _ _ (opened .given .1) (one .taken) (told2 .given .1) (told .given .1) in
+    let a = s .args in
+    let from = a .from in
+    let cs = charactersOf (a .capture .now) in
     let long = characters-length (a .capture .now) in
-    ran-then (charactersOf (a .capture .now)) (ran-same (charactersOf (a .capture .now)) (a .from .at) (a .from .plus) (a .from .reader) _ (a .events .now) (begun-data (a .from .reader) _ _ _ (c .before .before .before .before .before .before .packet .given .1) (c .before .before .before .before .if1 .taken) (c .before .before .before .before .before .before .before .before .enum-told2 .given .1) (c .before .before .before .before .before .before .before .before .before .before .enum-told .given .1)) (omega arith) (c .before .before .before .before .before .before .before .before .before .before .before .before .before .before .before .pre .5)) (c .before .before .data-bytes .ensures)
+    ran-then cs (ran-same cs (from .at) (from .plus) (from .reader) _ (a .events .now) is (omega arith) (s .pre .5)) (run .ensures)
 
 returns-3 : tie.Need-returns-3
-returns-3 c = let a = c .before .before .before .before .before .before .before .before .before .before .before .args in
+returns-3 c =
+    let s = c .before .before .before .before .before .before .before .before .before .before .before in
+    let a = s .args in
+    let from = a .from in
     let long = characters-length (a .capture .now) in
-    ran-none (charactersOf (a .capture .now)) (a .from .at) (a .from .plus) (a .from .reader) (a .events .now) (omega arith) (c .before .before .before .before .before .before .before .before .before .before .before .pre .5)
+    ran-none (charactersOf (a .capture .now)) (from .at) (from .plus) (from .reader) (a .events .now) (omega arith) (s .pre .5)
 
 same-length-2 : tie.Need-same-length-2
-same-length-2 c = c .before .before .priority-bytes .ensures .room
+same-length-2 c =
+    let run = c .before .before .priority-bytes in
+    run .ensures .room
 
 returns-4 : tie.Need-returns-4
-returns-4 c = let a = c .before .before .before .before .before .before .before .before .before .before .before .before .before .args in
+returns-4 c =
+    let run = c .before .before .priority-bytes in
+    let inner = c .before .before .before .before .before .before .priority in
+    let told = c .before .before .before .before .before .before .before .before .enum-told in
+    let s = c .before .before .before .before .before .before .before .before .before .before .before .before .before in
+    let is = by-parts (s .args .from .reader) refl (inner .given .1) (told .given .1) in
+    let a = s .args in
+    let from = a .from in
+    let cs = charactersOf (a .capture .now) in
     let long = characters-length (a .capture .now) in
-    ran-then (charactersOf (a .capture .now)) (ran-same (charactersOf (a .capture .now)) (a .from .at) (a .from .plus) (a .from .reader) _ (a .events .now) (by-parts (a .from .reader) refl (c .before .before .before .before .before .before .priority .given .1) (c .before .before .before .before .before .before .before .before .enum-told .given .1)) (omega arith) (c .before .before .before .before .before .before .before .before .before .before .before .before .before .pre .5)) (c .before .before .priority-bytes .ensures)
+    ran-then cs (ran-same cs (from .at) (from .plus) (from .reader) _ (a .events .now) is (omega arith) (s .pre .5)) (run .ensures)
 
 returns-5 : tie.Need-returns-5
-returns-5 c = let a = c .before .before .before .before .before .before .before .before .before .args in
+returns-5 c =
+    let s = c .before .before .before .before .before .before .before .before .before in
+    let a = s .args in
+    let from = a .from in
     let long = characters-length (a .capture .now) in
-    ran-none (charactersOf (a .capture .now)) (a .from .at) (a .from .plus) (a .from .reader) (a .events .now) (omega arith) (c .before .before .before .before .before .before .before .before .before .pre .5)
+    ran-none (charactersOf (a .capture .now)) (from .at) (from .plus) (from .reader) (a .events .now) (omega arith) (s .pre .5)
 
 returns-6 : tie.Need-returns-6
-returns-6 c = let a = c .before .before .before .before .before .args in
+returns-6 c =
+    let s = c .before .before .before .before .before in
+    let a = s .args in
+    let from = a .from in
     let long = characters-length (a .capture .now) in
-    ran-none (charactersOf (a .capture .now)) (a .from .at) (a .from .plus) (a .from .reader) (a .events .now) (omega arith) (c .before .before .before .before .before .pre .5)
+    ran-none (charactersOf (a .capture .now)) (from .at) (from .plus) (from .reader) (a .events .now) (omega arith) (s .pre .5)
 
 returns-7 : tie.Need-returns-7
-returns-7 c = let a = c .before .before .before .before .before .args in
+returns-7 c =
+    let s = c .before .before .before .before .before in
+    let a = s .args in
+    let from = a .from in
     let long = characters-length (a .capture .now) in
-    ran-none (charactersOf (a .capture .now)) (a .from .at) (a .from .plus) (a .from .reader) (a .events .now) (omega arith) (c .before .before .before .before .before .pre .5)
+    ran-none (charactersOf (a .capture .now)) (from .at) (from .plus) (from .reader) (a .events .now) (omega arith) (s .pre .5)
 
 returns-8 : tie.Need-returns-8
-returns-8 c = let a = c .before .before .before .before .before .args in
+returns-8 c =
+    let s = c .before .before .before .before .before in
+    let a = s .args in
+    let from = a .from in
     let long = characters-length (a .capture .now) in
-    ran-none (charactersOf (a .capture .now)) (a .from .at) (a .from .plus) (a .from .reader) (a .events .now) (omega arith) (c .before .before .before .before .before .pre .5)
+    ran-none (charactersOf (a .capture .now)) (from .at) (from .plus) (from .reader) (a .events .now) (omega arith) (s .pre .5)
 
 pub user-bytes-spec : {M : Type 1} → statement M
-user-bytes-spec = tie.close (tie.spec enum-told enum-told-2 enum-told-3 enum-known-packet data-bytes-requires enum-known-priority priority-bytes-requires enum-told-4 enum-told-5 enum-told-6 returns same-length returns-2 returns-3 same-length-2 returns-4 returns-5 returns-6 returns-7 returns-8)
+user-bytes-spec =
+    tie.close
+    (tie.spec
+    enum-told enum-told-2 enum-told-3 enum-known-packet data-bytes-requires enum-known-priority priority-bytes-requires
+    enum-told-4 enum-told-5 enum-told-6 returns same-length returns-2 returns-3 same-length-2 returns-4 returns-5 returns-6
+    returns-7 returns-8)
