@@ -39,9 +39,9 @@ pub extern "C" fn buzz_reader_step(
         (r ≡ after .refusal) × (now (reader .exit) ≡ after .lent .reader) × (now (event .exit) ≡ after .lent .event)
         × (now (value .exit) ≡ after .lent .value) × (now (number .exit) ≡ after .lent .number)) ⌝ }
 {
-    let step = host_reader::step(*reader, violation, byte, control);
+    let step = host_steps::step(*reader, violation, byte, control);
     let said = step.event;
-    let told = host_reader::told(said);
+    let told = host_steps::told(said);
     if told.refusal != 0 {
         return told.refusal;
     }

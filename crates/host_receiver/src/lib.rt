@@ -1,4 +1,6 @@
 // What C calls of the receiving end of the retry, its state in 4 lent bytes.
+mod state;
+
 use host_marks::mark_number;
 ghost use mathlib.Core.Path.{_≡_};
 ghost use Rattle.host_calls.specs.ReceiverCalls.{beginsReceiver, Arrives, arrives, ArrivesDamaged, arrivesDamaged};
@@ -13,7 +15,7 @@ pub extern "C" fn buzz_receiver_fresh(size: u32, receiver: &mut [u8; 4]) -> u32
         return made.refusal as u32;
     }
     let next = made.receiver;
-    *receiver = host_retry::receiver_bytes(next);
+    *receiver = state::receiver_bytes(next);
     0
 }
 
@@ -50,7 +52,7 @@ pub extern "C" fn buzz_receiver_arrival(
         × (now («delivered_bad» .exit) ≡ after .lent .bad) × (now («delivered_length» .exit) ≡ after .lent .size)
         × (now (nack .exit) ≡ after .lent .nack) × (now (reply .exit) ≡ after .lent .reply)) ⌝ }
 {
-    let given = host_retry::receiver_in(*receiver);
+    let given = state::receiver_in(*receiver);
     let arrived = retry_receiver::arrival(
         given,
         number,
@@ -64,7 +66,7 @@ pub extern "C" fn buzz_receiver_arrival(
         return arrived.refusal as u32;
     }
     let next = arrived.receiver;
-    *receiver = host_retry::receiver_bytes(next);
+    *receiver = state::receiver_bytes(next);
     *delivered = mark_number(arrived.delivered);
     *delivered_channel = arrived.channel as u32;
     *delivered_bad = mark_number(arrived.bad);
@@ -86,13 +88,13 @@ pub extern "C" fn buzz_receiver_damaged_arrival(
         (r ≡ after .refusal) × (now (receiver .exit) ≡ after .lent .receiver) × (now (nack .exit) ≡ after .lent .nack) × (now (reply .exit) ≡ after
         .lent .reply)) ⌝ }
 {
-    let given = host_retry::receiver_in(*receiver);
+    let given = state::receiver_in(*receiver);
     let dropped = retry_receiver::damaged_arrival(given);
     if dropped.refusal != 0 {
         return dropped.refusal as u32;
     }
     let next = dropped.receiver;
-    *receiver = host_retry::receiver_bytes(next);
+    *receiver = state::receiver_bytes(next);
     *nack = mark_number(dropped.nack);
     *reply = dropped.number as u32;
     0

@@ -3,8 +3,8 @@
 use mathlib.Core.Path.{_≡_, refl, sym, ap, _∙_}
 use Rattle.host_rules.specs.Stepping.{toldOf}
 use borrow.Author.Needs.{needs}
-use Rattle.host_reader.proofs.told.Statement.{statement}
-use Rattle.host_reader.proofs.told.Tie as tie
+use Rattle.host_steps.proofs.told.Statement.{statement}
+use Rattle.host_steps.proofs.told.Tie as tie
 
 enum-told : tie.Need-enum-told
 enum-told c = search needs

@@ -10,8 +10,8 @@ use Rattle.host_rules.specs.ReaderBytes.{readerIn}
 use Rattle.host_rules.specs.Stepping.{resultOf}
 use Rattle.host_rules.proofs.Stepping.{step-no-reader, step-no-violation, step-invalid, step-no-byte, step-done}
 use borrow.Author.Needs.{needs}
-use Rattle.host_reader.proofs.step.Statement.{statement}
-use Rattle.host_reader.proofs.step.Tie as tie
+use Rattle.host_steps.proofs.step.Statement.{statement}
+use Rattle.host_steps.proofs.step.Tie as tie
 
 reader-in-requires : tie.Need-reader-in-requires
 reader-in-requires c κs = search needs

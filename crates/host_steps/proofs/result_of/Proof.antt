@@ -3,8 +3,8 @@
 use mathlib.Core.Path.{_≡_, refl, sym, ap, _∙_}
 use borrow.Author.Tests.{eq-eqb, ne-eqb, not-true, not-false}
 use Rattle.host_rules.specs.Stepping.{resultOf}
-use Rattle.host_reader.proofs.result_of.Statement.{statement}
-use Rattle.host_reader.proofs.result_of.Tie as tie
+use Rattle.host_steps.proofs.result_of.Statement.{statement}
+use Rattle.host_steps.proofs.result_of.Tie as tie
 
 returns : tie.Need-returns
 unfolding resultOf
