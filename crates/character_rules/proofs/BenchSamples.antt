@@ -3,13 +3,13 @@
 use mathlib.Core.Path.{refl}
 use Rattle.symbol.specs.Symbols.{isTwelve}
 use Rattle.character_rules.specs.Blocks.{sixBlocks, fourBlocks, controlFourBlocks, sixBlock, fourByList, fourBlock, firstBlock, between, secondBlock, character, closing}
-use Rattle.character_rules.specs.Writing.{writing}
+use Rattle.character_rules.specs.Writing.{writing, runWriting, runStored}
 use Rattle.character_rules.specs.Reading.{symbols, reading}
 use Rattle.character_rules.specs.Results.{packed, runReading, runOutput}
 use Rattle.character_rules.specs.Samples.{Samples}
 
 pub samples : Samples
-unfolding writing reading symbols packed runReading runOutput isTwelve sixBlocks fourBlocks controlFourBlocks sixBlock fourByList fourBlock firstBlock between secondBlock character closing
+unfolding writing runWriting runStored reading symbols packed runReading runOutput isTwelve sixBlocks fourBlocks controlFourBlocks sixBlock fourByList fourBlock firstBlock between secondBlock character closing
 samples =
     record {
       not-writable = refl;
@@ -21,4 +21,7 @@ samples =
       nothing = refl;
       run-closing = refl;
       run-output = refl;
+      bytes-closing = refl;
+      bytes-output = refl;
+      bytes-short = refl;
     }

@@ -11,3 +11,4 @@ pub mod Wrong
 pub mod Told
 pub mod Packed
 pub mod RunLaws
+pub mod WriteLaws

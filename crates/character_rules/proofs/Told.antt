@@ -13,7 +13,9 @@ use Rattle.character_rules.specs.declared.Decoded.{Decoded}
 use Rattle.character_rules.specs.declared.Decoded.the-variants.{Clean, WrongDisparity, Invalid, Refused as NotRead}
 use Rattle.character_rules.specs.declared.RunRead.{RunRead}
 use Rattle.character_rules.specs.declared.RunRead.the-variants.{Read, Refused as NotRun}
-use Rattle.character_rules.specs.Answers.{Writing, writingSays, Reading, readingSays, RunReading, runSays}
+use Rattle.character_rules.specs.declared.RunWritten.{RunWritten}
+use Rattle.character_rules.specs.declared.RunWritten.the-variants.{Written as Wrote, Refused as NotWrote}
+use Rattle.character_rules.specs.Answers.{Writing, writingSays, Reading, readingSays, RunReading, runSays, RunWriting, runWrittenSays}
 
 -- an answer from its refusal's number and its values
 module _ (n : ℕ) where
@@ -33,6 +35,10 @@ module _ (n : ℕ) where
   run none = NotRun n
   run (some d) = Read d
 
+  abbrev ran : Option ℤ → RunWritten
+  ran none = NotWrote n
+  ran (some d) = Wrote d
+
 abbrev pub theEncoded : Writing → Encoded
 theEncoded w = encoded (w .refusal) (w .character) (w .disparity)
 
@@ -41,6 +47,9 @@ theDecoded r = decoded (r .refusal) (r .violation) (r .symbol) (r .disparity)
 
 abbrev pub theRunRead : RunReading → RunRead
 theRunRead r = run (r .refusal) (r .disparity)
+
+abbrev pub theRunWritten : RunWriting → RunWritten
+theRunWritten r = ran (r .refusal) (r .disparity)
 
 pub encoded-told : (a : Encoded) → theEncoded (writingSays a) ≡ a
 encoded-told (Written c d) = refl
@@ -56,6 +65,10 @@ pub run-told : (a : RunRead) → theRunRead (runSays a) ≡ a
 run-told (Read d) = refl
 run-told (NotRun n) = refl
 
+pub run-written-told : (a : RunWritten) → theRunWritten (runWrittenSays a) ≡ a
+run-written-told (Wrote d) = refl
+run-written-told (NotWrote n) = refl
+
 -- two answers that say the same are the same
 pub one-encoded : (a b : Encoded) → writingSays a ≡ writingSays b → a ≡ b
 one-encoded a b e = sym (encoded-told a) ∙ ap theEncoded e ∙ encoded-told b
@@ -65,3 +78,6 @@ one-decoded a b e = sym (decoded-told a) ∙ ap theDecoded e ∙ decoded-told b
 
 pub one-run : (a b : RunRead) → runSays a ≡ runSays b → a ≡ b
 one-run a b e = sym (run-told a) ∙ ap theRunRead e ∙ run-told b
+
+pub one-run-written : (a b : RunWritten) → runWrittenSays a ≡ runWrittenSays b → a ≡ b
+one-run-written a b e = sym (run-written-told a) ∙ ap theRunWritten e ∙ run-written-told b

@@ -9,6 +9,8 @@ use Rattle.character_rules.specs.declared.Decoded.{Decoded}
 use Rattle.character_rules.specs.declared.Decoded.the-variants.{Clean, WrongDisparity, Invalid, Refused as NotRead}
 use Rattle.character_rules.specs.declared.RunRead.{RunRead}
 use Rattle.character_rules.specs.declared.RunRead.the-variants.{Read, Refused as NotRun}
+use Rattle.character_rules.specs.declared.RunWritten.{RunWritten}
+use Rattle.character_rules.specs.declared.RunWritten.the-variants.{Written as Wrote, Refused as NotWrote}
 
 -- of writing: the refusal's number (0: none), the character, the closing disparity
 pub record Writing : Type 0 where
@@ -65,3 +67,18 @@ notRunRead n = record { refusal = n; disparity = none }
 abbrev pub runSays : RunRead → RunReading
 runSays (Read d) = runRead d
 runSays (NotRun n) = notRunRead n
+
+-- of writing a run: the refusal's number, the disparity after it
+pub record RunWriting : Type 0 where
+  pub refusal : ℕ
+  pub disparity : Option ℤ
+
+abbrev pub runWritten : ℤ → RunWriting
+runWritten d = record { refusal = 0; disparity = some d }
+
+abbrev pub notRunWritten : ℕ → RunWriting
+notRunWritten n = record { refusal = n; disparity = none }
+
+abbrev pub runWrittenSays : RunWritten → RunWriting
+runWrittenSays (Wrote d) = runWritten d
+runWrittenSays (NotWrote n) = notRunWritten n

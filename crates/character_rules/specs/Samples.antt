@@ -3,8 +3,8 @@ use mathlib.Core.Path.{_≡_}
 use mathlib.Core.List.{List, [], _∷_}
 use Prim.Native.Nat.{ℕ, _+_, _*_}
 use lib.IntN.{ℤ, pos, negsuc}
-use Rattle.character_rules.specs.Answers.{notWritten, clean, wrongDisparity, invalid, notRead, runRead}
-use Rattle.character_rules.specs.Writing.{writing}
+use Rattle.character_rules.specs.Answers.{notWritten, clean, wrongDisparity, invalid, notRead, runRead, runWritten, notRunWritten}
+use Rattle.character_rules.specs.Writing.{writing, runWriting, runStored}
 use Rattle.character_rules.specs.Reading.{reading}
 use Rattle.character_rules.specs.Results.{runReading, runOutput}
 use Rattle.character_rules.specs.Bench.{D, K}
@@ -25,3 +25,8 @@ pub record Samples : Type 0 where
   pub run-output :
       runOutput (0b0011111010 ∷ 0b1100000101 ∷ []) (negsuc 0) (7 ∷ 8 ∷ 9 ∷ [])
       ≡ (0xBC + 256 + 2048) ∷ (0xBC + 256) ∷ 9 ∷ []
+  -- D0.0 closes where it began, D3.0 turns the disparity over: from −1 into an output that is longer by one; and into one that is too short
+  pub bytes-closing : runWriting (0x00 ∷ 0x03 ∷ []) (negsuc 0) 3 ≡ runWritten (pos 1)
+  pub bytes-output :
+      runStored (0x00 ∷ 0x03 ∷ []) (negsuc 0) (7 ∷ 8 ∷ 9 ∷ []) ≡ 0b1001110100 ∷ 0b1100011011 ∷ 9 ∷ []
+  pub bytes-short : runWriting (0x00 ∷ 0x03 ∷ []) (negsuc 0) 1 ≡ notRunWritten 6

@@ -25,3 +25,10 @@ pub enum RunRead {
     // The number of the refusal.
     Refused(u8),
 }
+
+pub enum RunWritten {
+    // The disparity after the run.
+    Written(i32),
+    // The number of the refusal.
+    Refused(u8),
+}

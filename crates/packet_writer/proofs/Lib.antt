@@ -1,4 +1,5 @@
 pub mod Laws
 pub mod Turns
 pub mod Parts
+pub mod Bytes
 pub mod Outcome

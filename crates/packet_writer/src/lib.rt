@@ -1,5 +1,6 @@
 // The packet writer: one whole data packet, priority packet or retry LMP a call, as ten-bit characters into lent memory.
 use character_rules::Encoded;
+use character_rules::RunWritten;
 use packet_rules::Written;
 use symbol::Symbol;
 ghost use mathlib.Core.Path.{_≡_};
@@ -66,18 +67,21 @@ fn put_symbols(out: &mut [u16], p: Place, numbers: &[u16]) -> Place
     q
 }
 
+// The user bytes are written as one run.
 fn put_bytes(out: &mut [u16], p: Place, bytes: &[u8]) -> Place
     requires { ⌜ (p .at + length (now bytes) ≤ length (now out)) × T (isDisparity (p .disparity)) ⌝ }
     ensures { λ r. ⌜ Wrote p (map dataSymbol (now (bytes .entry))) (now (out .entry)) (now (out .exit)) r ⌝ }
 {
-    let mut q = p;
-    let mut i = 0;
-    while i < bytes.len() {
-        let s = Symbol::data(bytes[i]);
-        q = put(&mut *out, q, s);
-        i += 1;
+    let at = p.at;
+    let n = bytes.len();
+    let written = run_writer::write_run(bytes, p.disparity, &mut out[at..]);
+    match written {
+        RunWritten::Written(disparity) => Place {
+            at: at + n,
+            disparity,
+        },
+        RunWritten::Refused(_) => p,
     }
-    q
 }
 
 fn end_number(bad: bool) -> u16

@@ -1,80 +1,91 @@
--- After i turns the first i bytes are written.
+-- The run was written, since the part is long enough; what came back is the part's own.
 -- Assumes nothing.
-use mathlib.Core.Path.{_≡_, refl, ap, sym, _∙_, subst}
-use mathlib.Core.List.{List, [], _∷_, map}
-use Prim.Native.Nat.{ℕ, _+_, _≤_, _<_, _-_}
-use native.Mathlib.Omega.{arith}
+use mathlib.Core.Path.{_≡_, refl, ap, sym, _∙_}
+use lib.ListN.{length}
+use mir.Syntax.{w32}
+use mir.ValLaws.{toZ-ofZ}
 use borrow.Author.Needs.{needs}
-use lib.Dec.{T, ltb, lt→ltb}
-use lib.ListN.{length, getD, take}
-use lib.Seq.{take-all}
-use Rattle.laws.proofs.Bools.{and-both}
-use Rattle.symbol.specs.Symbols.{dataSymbol}
-use Rattle.symbol.specs.declared.Symbol.{Symbol}
-use Rattle.character_rules.specs.Demand.{canWrite}
-use Rattle.packet_writer.specs.declared.Place.{Place}
-use Rattle.packet_writer.specs.Writing.{symbolOf, Wrote}
-use Rattle.packet_writer.proofs.Laws.{wrote-none}
-use Rattle.packet_writer.proofs.Turns.{place-at, place-disparity, one-turn, all-at}
+use Rattle.character_rules.specs.Answers.{runWritten, notRunWritten, runWrittenSays}
+use Rattle.character_rules.specs.Writing.{runWriting, runStored}
+use Rattle.packet_writer.proofs.Bytes.{part, run-closing, run-wrote, run-not-refused}
 use Rattle.packet_writer.proofs.put_bytes.Statement.{statement}
 use Rattle.packet_writer.proofs.put_bytes.Tie as tie
 
-abbrev Inv-loop : tie.InvT-loop
-Inv-loop out₀ bytes q₀ i₀ out q i = (i ≤ length bytes) × (Wrote q₀ (map dataSymbol (take i bytes)) out₀ out q) × (length out ≡ length out₀)
+mul-write-run : tie.Need-mul-write-run
+mul-write-run c = search needs
 
-abbrev μ-loop : tie.MeasureT-loop
-μ-loop out₀ bytes q₀ i₀ out q i = length bytes - i
+sub-write-run : tie.Need-sub-write-run
+sub-write-run c = search needs
 
-loop-holds : tie.Need-loop-holds Inv-loop μ-loop
-loop-holds c = (omega arith, wrote-none _ _, refl)
+part-write-run-start : tie.Need-part-write-run-start
+part-write-run-start c = search needs
 
-shared-slice-read-data : tie.Need-shared-slice-read-data Inv-loop μ-loop
-shared-slice-read-data c = omega arith
+part-write-run-end : tie.Need-part-write-run-end
+part-write-run-end c = search needs
 
-data-requires : tie.Need-data-requires Inv-loop μ-loop
-data-requires c κs = search needs
+write-run-requires : tie.Need-write-run-requires
+write-run-requires c κs = search needs
 
-put-requires : tie.Need-put-requires Inv-loop μ-loop
-put-requires c κs =
-    let l = c .before .before .before .before .loop in
-    let b = c .before .before .before .before .before .before .before in
-    let xs = b .args .bytes .now in
-    let h : l .i < length xs = omega arith in
-    let at = place-at dataSymbol (b .args .p) xs (b .args .out .now) (l .i) (l .out) (l .q) (l .inv .0) (l .inv .1) in (
-      omega (arith, b .pre .0, at, l .inv .2),
-      subst (λ (s : Symbol). T (canWrite s)) (sym (c .before .«data» .ensures)) (and-both (ltb (getD xs (l .i) 0) 256) _ (lt→ltb (getD xs (l .i) 0) 256 (omega (arith, c .before .before .shared-slice-known2 .given (l .i)))) tt),
-      place-disparity dataSymbol (b .args .p) xs (b .args .out .now) (l .i) (l .out) (l .q) (b .pre .1) (l .inv .1),
-    )
+enum-known-written : tie.Need-enum-known-written
+enum-known-written c = search needs
 
-add-i : tie.Need-add-i Inv-loop μ-loop
-add-i c = omega arith
+add-t14 : tie.Need-add-t14
+add-t14 c = search needs
 
-loop-less : tie.Need-loop-less Inv-loop μ-loop
-loop-less c = omega arith
+enum-told : tie.Need-enum-told
+enum-told c = search needs
 
-loop-again : tie.Need-loop-again Inv-loop μ-loop
-loop-again c =
-    let l = c .before .before .before .before .before .before .before .loop in
-    let b = c .before .before .before .before .before .before .before .before .before .before in
-    let xs = b .args .bytes .now in
-    let h : l .i < length xs = omega arith in (
-      omega arith,
-      one-turn dataSymbol (b .args .p) xs (b .args .out .now) (l .i) h (b .pre .0) (l .inv .1)
-          (c .before .before .before .before .«data» .ensures) (c .before .before .put .ensures),
-      c .before .before .put .kept .0 ∙ l .inv .2,
-    )
+same-length : tie.Need-same-length
+same-length c = search needs
 
-same-length : tie.Need-same-length Inv-loop μ-loop
-same-length c = c .before .loop .inv .2
-
-returns : tie.Need-returns Inv-loop μ-loop
+returns : tie.Need-returns
 returns c =
-    let l = c .before .loop in
-    let xs = c .before .before .before .before .args .bytes .now in
-    let e : take (l .i) xs ≡ xs = take-all (l .i) xs (omega arith) in
-    rw e at (l .inv .1)
+    let b1 = c .before in let b2 = b1 .before in let b5 = b2 .before .before .before in let s = b5 .before .before .before .before .before in
+    let a = s .args in
+    let d = a .p .disparity in
+    let bs = a .bytes .now in
+    let old = a .out .now in
+    let g = b1 .written .given in
+    let e = g .0 .0 in
+    let z = toZ-ofZ w32 d (search needs) in
+    let w = b5 .write-run .ensures in
+    let q : runWritten e ≡ runWriting bs d (length (part (a .p) bs old (s .pre .0) (s .pre .1))) =
+    sym (ap runWrittenSays (g .1)) ∙ w .0 ∙ ap (λ x. runWriting bs x (length (part (a .p) bs old (s .pre .0) (s .pre .1)))) z in
+    run-wrote (a .p) bs old (s .pre .0) (s .pre .1) _ _
+    (w .1 ∙ ap (λ x. runStored bs x (part (a .p) bs old (s .pre .0) (s .pre .1))) z)
+    refl
+    (toZ-ofZ w32 e (search needs) ∙ run-closing (a .p) bs old (s .pre .0) (s .pre .1) e q)
+
+same-length-2 : tie.Need-same-length-2
+same-length-2 c = search needs
+
+returns-2 : tie.Need-returns-2
+returns-2 c =
+    let b1 = c .before in let b4 = b1 .before .before .before in let s = b4 .before .before .before .before .before in
+    let a = s .args in
+    let d = a .p .disparity in
+    let bs = a .bytes .now in
+    let old = a .out .now in
+    let g = c .enum-told .given in
+    let z = toZ-ofZ w32 d (search needs) in
+    let q : notRunWritten (g .0 .0) ≡ runWriting bs d (length (part (a .p) bs old (s .pre .0) (s .pre .1))) =
+    sym (ap runWrittenSays (g .1)) ∙ b4 .write-run .ensures .0
+    ∙ ap (λ x. runWriting bs x (length (part (a .p) bs old (s .pre .0) (s .pre .1)))) z in
+    absurd (run-not-refused (a .p) bs old (s .pre .0) (s .pre .1) (g .0 .0) q)
 
 pub put-bytes-spec : {M : Type 1} → statement M
 put-bytes-spec =
     tie.close
-    (tie.spec Inv-loop μ-loop loop-holds shared-slice-read-data data-requires put-requires add-i loop-less loop-again same-length returns)
+    (tie.spec
+    mul-write-run
+    sub-write-run
+    part-write-run-start
+    part-write-run-end
+    write-run-requires
+    enum-known-written
+    add-t14
+    enum-told
+    same-length
+    returns
+    same-length-2
+    returns-2)

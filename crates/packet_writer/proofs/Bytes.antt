@@ -1,0 +1,83 @@
+-- User bytes written as one run into the part of the output that begins at the place.
+-- Assumes nothing.
+use mathlib.Core.Path.{_≡_, refl, sym, ap, ap₂, _∙_}
+use mathlib.Core.Option.{Option, none, some, Option·some-injective}
+use mathlib.Core.List.{List, [], _∷_, _++_, map, append-assoc, append-nil}
+use Prim.Native.Nat.{ℕ, _+_, _-_, _≤_}
+use native.Mathlib.Omega.{arith}
+use lib.Dec.{T}
+use lib.IntN.{ℤ}
+use lib.ListN.{length, take, drop, length-drop}
+use lib.Seq.{take-all, drop-drop, drop-length}
+use Rattle.laws.proofs.Bools.{T-true}
+use Rattle.symbol.specs.Symbols.{dataSymbol}
+use Rattle.character_rules.specs.Disparity.{isDisparity}
+use Rattle.character_rules.specs.Blocks.{character, closing}
+use Rattle.character_rules.specs.Answers.{RunWriting, runWritten, notRunWritten}
+use Rattle.character_rules.specs.Writing.{runCharacters, runEnd, runWriting, runStored}
+use Rattle.character_rules.proofs.WriteLaws.{write-done}
+use Rattle.packet_rules.specs.Packets.{charactersOf, closingOf}
+use Rattle.packet_writer.specs.declared.Place.{Place}
+use Rattle.packet_writer.specs.Writing.{Wrote}
+use Rattle.packet_writer.proofs.Turns.{length-map}
+
+-- a run of bytes is a run of their symbols
+characters-are : (bs : List ℕ) (d : ℤ) → runCharacters bs d ≡ charactersOf (map dataSymbol bs) d
+unfolding charactersOf
+characters-are [] d = refl
+characters-are (b ∷ bs) d = ap (_∷_ (character (dataSymbol b) d)) (characters-are bs (closing (dataSymbol b) d))
+
+end-is : (bs : List ℕ) (d : ℤ) → runEnd bs d ≡ closingOf (map dataSymbol bs) d
+unfolding closingOf
+end-is [] d = refl
+end-is (b ∷ bs) d = end-is bs (closing (dataSymbol b) d)
+
+module _ (p : Place) (bs old : List ℕ) (room : p .at + length bs ≤ length old) (t : T (isDisparity (p .disparity))) where
+  abbrev past : List ℕ
+  past = drop (p .at) old
+
+  abbrev pub part : List ℕ
+  part = take (length old - p .at) past
+
+  part-is : part ≡ past
+  part-is = take-all (length old - p .at) past (omega (arith, length-drop (p .at) old))
+
+  nothing-after : drop (length old - p .at) past ≡ []
+  nothing-after = ap (λ (k : ℕ). drop k past) (sym (length-drop (p .at) old)) ∙ drop-length past
+
+  done : (runWritten (runEnd bs (p .disparity)) ≡ runWriting bs (p .disparity) (length part))
+      × (runCharacters bs (p .disparity) ++ drop (length bs) part ≡ runStored bs (p .disparity) part)
+  done =
+      write-done bs (p .disparity) part (T-true (isDisparity (p .disparity)) t)
+      (omega (arith, room, length-drop (p .at) old, ap (λ (l : List ℕ). length l) part-is))
+
+  line : (ys : List ℕ) → ys ≡ runStored bs (p .disparity) part
+      → take (p .at) old ++ (ys ++ drop (length old - p .at) past)
+      ≡ take (p .at) old ++ (charactersOf (map dataSymbol bs) (p .disparity) ++ drop (p .at + length (map dataSymbol bs)) old)
+  line ys e =
+      ap (λ (l : List ℕ). take (p .at) old ++ l)
+      (ap (λ (l : List ℕ). ys ++ l) nothing-after ∙ append-nil ys ∙ e ∙ sym (done .1)
+      ∙ ap₂ (λ (a b : List ℕ). a ++ b) (characters-are bs (p .disparity))
+      (ap (drop (length bs)) part-is ∙ drop-drop (length bs) (p .at) old
+      ∙ ap (λ (n : ℕ). drop (p .at + n) old) (sym (length-map dataSymbol bs))))
+
+  -- where the run was written it closes as its symbols do
+  pub run-closing : (e : ℤ) → runWritten e ≡ runWriting bs (p .disparity) (length part) → e ≡ closingOf (map dataSymbol bs) (p .disparity)
+  run-closing e h =
+      Option·some-injective _ _ (ap (λ (w : RunWriting). w .disparity) (h ∙ sym (done .0))) ∙ end-is bs (p .disparity)
+
+  pub run-wrote : (ys : List ℕ) (q : Place) → ys ≡ runStored bs (p .disparity) part → q .at ≡ p .at + length bs
+      → q .disparity ≡ closingOf (map dataSymbol bs) (p .disparity)
+      → Wrote p (map dataSymbol bs) old (take (p .at) old ++ (ys ++ drop (length old - p .at) past)) q
+  run-wrote ys q e a z =
+      record {
+        line = line ys e;
+        next = ap₂ (λ (n : ℕ) (y : ℤ). record { at = n; disparity = y }) (a ∙ ap (λ (n : ℕ). p .at + n) (sym (length-map dataSymbol bs))) z;
+      }
+
+  -- and it was not refused
+  pub run-not-refused : (n : ℕ) → notRunWritten n ≡ runWriting bs (p .disparity) (length part) → ⊥
+  run-not-refused n h = none-some (ap (λ (w : RunWriting). w .disparity) (h ∙ sym (done .0)))
+    where
+      none-some : {a : ℤ} → _≡_ {A = Option ℤ} none (some a) → ⊥
+      none-some e = let z : _≡_ {A = ℕ} 0 1 = cc e in omega arith

@@ -1,0 +1,46 @@
+-- A run that is written, over plain values: the disparity and the output that the code leaves are those of the rules.
+-- Assumes nothing.
+use mathlib.Core.Path.{_≡_, refl, sym, _∙_, ap}
+use mathlib.Core.Bool.{Bool, true, false}
+use mathlib.Core.List.{List, _++_}
+use Prim.Native.Nat.{ℕ, _≤_, _<_}
+use native.Mathlib.Omega.{arith}
+use lib.Dec.{T, eqb}
+use lib.IntN.{ℤ}
+use lib.ListN.{length, drop}
+use Rattle.laws.proofs.Bools.{true-T}
+use Rattle.character_rules.specs.Disparity.{isPlus, isDisparity, disparityOf}
+use Rattle.character_rules.specs.Answers.{runWritten}
+use Rattle.character_rules.specs.Results.{mark}
+use Rattle.character_rules.specs.Writing.{runCharacters, runEnd, runWriting, runStored}
+use Rattle.character_rules.proofs.Disparities.{by-sign}
+use Rattle.character_rules.proofs.WriteLaws.{end-disparity, write-done}
+use Rattle.disparity.proofs.Signed.{again, back}
+
+mark-is : (p : Bool) → eqb (mark p) 1 ≡ p
+mark-is true = refl
+mark-is false = refl
+
+pub mark-low : (p : Bool) (n : ℕ) → n ≡ mark p → n < 2
+mark-low true n e = omega (arith, e)
+mark-low false n e = omega (arith, e)
+
+module _
+    (bs : List ℕ) (d : ℤ) (out new : List ℕ) (plus : Bool) (from : ℕ) (p : ℕ) (e : ℤ)
+    (t : isDisparity d ≡ true) (h : length bs ≤ length out) (hplus : plus ≡ isPlus d) (hfrom : from ≡ mark plus)
+    (hp : disparityOf (eqb p 1) ≡ runEnd bs (disparityOf (eqb from 1))) (he : e ≡ disparityOf (eqb p 1))
+    (hn : new ≡ runCharacters bs (disparityOf (eqb from 1)) ++ drop (length bs) out) where
+  start : disparityOf (eqb from 1) ≡ d
+  start =
+      ap (λ (n : ℕ). disparityOf (eqb n 1)) hfrom ∙ ap disparityOf (mark-is plus ∙ hplus) ∙ by-sign d (true-T (isDisparity d) t)
+
+  ends : T (isDisparity (runEnd bs d))
+  ends = end-disparity bs d (true-T (isDisparity d) t)
+
+  after : again e ≡ runEnd bs d
+  after = ap again (he ∙ hp ∙ ap (runEnd bs) start) ∙ back (runEnd bs d) ends
+
+  pub run-is-written : (runWritten (again e) ≡ runWriting bs d (length out)) × (new ≡ runStored bs d out)
+  run-is-written =
+      let r = write-done bs d out t h in
+      (ap runWritten after ∙ r .0, hn ∙ ap (λ (z : ℤ). runCharacters bs z ++ drop (length bs) out) start ∙ r .1)
