@@ -16,7 +16,7 @@ ghost use Rattle.refusal.specs.Order.{refusalOf};
 ghost use Rattle.retry_rules.specs.Reply.{toOldest, restarted, oneReleased, acked, nacked, heard, replyChecks, withCounters, replyOf, damagedReplyOf};
 
 // Send point to the oldest.
-pub fn to_oldest(c: Counters) -> Counters
+pub(crate) fn to_oldest(c: Counters) -> Counters
     ensures { λ r. ⌜ r ≡ toOldest c ⌝ }
 {
     let mut d = c;
@@ -102,7 +102,7 @@ fn heard(c: Counters, nack: bool, number: u8) -> Counters
 }
 
 // The sender with other counters; its slots as they were.
-pub fn with_counters(sender: Sender, counters: Counters) -> Sender
+pub(crate) fn with_counters(sender: Sender, counters: Counters) -> Sender
     ensures { λ r. ⌜ r ≡ withCounters sender counters ⌝ }
 {
     let slots = sender.slots;
