@@ -1,9 +1,8 @@
 #!/usr/bin/env python3
 """Every public function of a library crate has a contract in the settled form, asks nothing of its caller, and stands in docs/CONTRACTS.md.
 
-The settled form: an `ensures { λ r. ⌜ .. ⌝ }` of equations joined by ×, after any `let`: one whose left side is the answer (`r`, or what it says,
-`..Says r`), and one `now (x .exit) ≡ ..` for each parameter x that is lent to be written (`&mut`). Nothing else, so that the answer and all lent
-memory are said, each once.
+The settled form: an `ensures { λ r. ⌜ .. ⌝ }` of equations joined by ×, after any `let`: one whose left side is the answer (`r`, or what it says, `..Says r`), and one
+`now (x .exit) ≡ ..` for each parameter x that is lent to be written (`&mut`). Nothing else, so that the answer and all lent memory are said, each once.
 Fails, naming the function, for each fault. `check.py --self-test` shows that each kind of fault is found.
 """
 import pathlib
@@ -119,14 +118,11 @@ def faults_of(crate, name, rest, listed):
     wrong = form(rest)
     if (crate, name) in EXCEPTIONS:
         # still no requires, and an exception that is none is a fault
-        none = [] if wrong else ["is listed as an exception and is none"]
-        return found + [w for w in wrong if "requires" in w or "no contract" in w] + none
+        return found + [w for w in wrong if "requires" in w or "no contract" in w] + ([] if wrong else ["is listed as an exception and is none"])
     return found + wrong
 
 
-GOOD = """(a: u32, out: &mut [u8], n: &mut u32) -> u32
-    ensures { λ r. ⌜ (let w = rule a (now (out .entry)) in
-        (r ≡ w .refusal) × (now (out .exit) ≡ w .out) × (now (n .exit) ≡ w .n)) ⌝ }"""
+GOOD = '(a: u32, out: &mut [u8], n: &mut u32) -> u32\n    ensures { λ r. ⌜ (let w = rule a (now (out .entry)) in (r ≡ w .refusal) × (now (out .exit) ≡ w .out) × (now (n .exit) ≡ w .n)) ⌝ }'
 WRONG = [
     ("is not in docs/CONTRACTS.md", "unlisted", GOOD),
     ("has a requires", "f", GOOD.replace("    ensures", "    requires { ⌜ a < 4 ⌝ }\n    ensures")),
@@ -145,16 +141,12 @@ WRONG = [
 
 def self_test():
     """none in what is right, and each fault is found in what has it"""
-    right = [
-        GOOD,
-        "(a: u32) -> Answer\n    ensures { λ s. ⌜ someSays s ≡ rule a ⌝ }",
-        "(x: &'a [u8]) -> bool\n    ensures { λ r. ⌜ r ≡ legal (now (x .entry)) ⌝ }",
-    ]
+    right = [GOOD, "(a: u32) -> Answer\n    ensures { λ s. ⌜ someSays s ≡ rule a ⌝ }", "(x: &'a [u8]) -> bool\n    ensures { λ r. ⌜ r ≡ legal (now (x .entry)) ⌝ }"]
     missed = [r for r in right if faults_of("c", "f", r, {"f"})]
     missed += [w for fault, name, w in WRONG if not any(f.startswith(fault) for f in faults_of("c", name, w, {"f"}))]
     bare_one = "pub fn f(x: u8) -> u8 {\n    x\n}\n\nfn g() -> u8\n    ensures { λ r. ⌜ r ≡ 0 ⌝ }\n{\n    0\n}\n"
     missed += [bare_one] if [faults_of("c", n, r, {"f"}) == [] for _, n, r in heads(bare_one)] != [False] else []
-    print("\n".join("self-test: not found: " + m for m in missed) if missed else f"contracts: each of {len(WRONG) + 1} wrong contracts is found")
+    print("\n".join("self-test: not told: " + m for m in missed) if missed else f"contracts: each of {len(WRONG) + 1} wrong contracts is found")
     return 1 if missed else 0
 
 
@@ -169,8 +161,7 @@ def main():
             seen.add((crate.name, name))
             faults += [f"{source}: {name} {f}" for f in faults_of(crate.name, name, rest, listed)]
     faults += [f"the exception {c}::{n} is no public function" for c, n in EXCEPTIONS if (c, n) not in seen]
-    good = f"contracts: {count} public functions, each listed, each one equation of its answer and of each lent thing, none with a requires"
-    print("\n".join(faults) if faults else good)
+    print("\n".join(faults) if faults else f"contracts: {count} public functions, each listed, each one equation of its answer and of each lent thing, none with a requires")
     return 1 if faults or count == 0 else 0
 
 
