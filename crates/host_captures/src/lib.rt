@@ -21,7 +21,8 @@ pub extern "C" fn buzz_capture_count(capture: &[u8], count: &mut usize) -> u32
 // The character at a place.
 #[no_mangle]
 pub extern "C" fn buzz_capture_character(capture: &[u8], place: usize, character: &mut u32) -> u32
-    ensures { λ r. ⌜ (let after = finds (now (capture .entry)) place (now (character .entry)) in (r ≡ after .refusal) × (now (character .exit) ≡ after .lent)) ⌝ }
+    ensures { λ r. ⌜ (let after = finds (now (capture .entry)) place (now (character .entry)) in
+        (r ≡ after .refusal) × (now (character .exit) ≡ after .lent)) ⌝ }
 {
     let answer = capture::character_at(capture, place);
     match answer {

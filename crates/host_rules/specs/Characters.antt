@@ -27,8 +27,3 @@ byteIn (some s) = s .byte
 abbrev pub controlIn : Option Symbol → ℕ
 controlIn none = 0
 controlIn (some s) = markNumber (s .control)
-
--- a result has a new disparity, a refusal has none: what a lent number holds after a reading that makes so much of it
-abbrev pub afterResult : {A : Type 0} → Option ℤ → A → A → A
-afterResult none old new = old
-afterResult (some d) old new = new

@@ -28,8 +28,11 @@ returns c =
     let illegal = sym (c .before .before .is-legal .ensures) ∙ not-true _ (c .before .if1 .taken) in
     let x = bytes-illegal (a .capture .now) (a .bytes) (a .disparity) (a .events .now) illegal in
     let d = toZ-ofZ (s .fits .disparity) in
-    let given = c .before .before .before .reader-in in
-    (c .not-read .ensures ∙ ap (λ (z : ℤ). notReadCapture (given .result) z 8) d ∙ ap (λ (r : Reader). notReadCapture r (a .disparity) 8) (given .ensures) ∙ x .answers, x .leaves)
+    let given = c .before .before .before .reader-in in (
+      c .not-read .ensures ∙ ap (λ (z : ℤ). notReadCapture (given .result) z 8) d
+          ∙ ap (λ (r : Reader). notReadCapture r (a .disparity) 8) (given .ensures) ∙ x .answers,
+      x .leaves,
+    )
 
 is-reader-requires : tie.Need-is-reader-requires
 is-reader-requires c κs = search needs
@@ -45,8 +48,11 @@ returns-2 c =
     let none = sym (c .before .before .is-reader .ensures) ∙ not-true _ (c .before .if2 .taken) in
     let x = bytes-no-reader (a .capture .now) (a .bytes) (a .disparity) (a .events .now) legal none in
     let d = toZ-ofZ (s .fits .disparity) in
-    let given = c .before .before .before .before .before .reader-in in
-    (c .not-read2 .ensures ∙ ap (λ (z : ℤ). notReadCapture (given .result) z 1) d ∙ ap (λ (r : Reader). notReadCapture r (a .disparity) 1) (given .ensures) ∙ x .answers, x .leaves)
+    let given = c .before .before .before .before .before .reader-in in (
+      c .not-read2 .ensures ∙ ap (λ (z : ℤ). notReadCapture (given .result) z 1) d
+          ∙ ap (λ (r : Reader). notReadCapture r (a .disparity) 1) (given .ensures) ∙ x .answers,
+      x .leaves,
+    )
 
 read-capture-requires : tie.Need-read-capture-requires
 read-capture-requires c κs = search needs
@@ -58,7 +64,8 @@ returns-3 : tie.Need-returns-3
 returns-3 c =
     let s = c .before .before .before .before .before .before .before .before .before .before .before in
     let a = s .args in
-    let legal = sym (c .before .before .before .before .before .before .before .is-legal .ensures) ∙ not-false _ (c .before .before .before .before .before .before .if1 .left) in
+    let legal = sym (c .before .before .before .before .before .before .before .is-legal .ensures)
+    ∙ not-false _ (c .before .before .before .before .before .before .if1 .left) in
     let state = sym (c .before .before .before .before .before .is-reader .ensures) ∙ not-false _ (c .before .before .before .before .if2 .left) in
     let x = bytes-read (a .capture .now) (a .bytes) (a .disparity) (a .events .now) legal state in
     let d = toZ-ofZ (s .fits .disparity) in
