@@ -50,3 +50,23 @@ module _ (c : ℕ) (d : ℤ) where
   pub reading-done : c ≤ 1023 → isDisparity d ≡ true → reading c d ≡ result d (firstWith symbols c d) (firstWith symbols c (negℤ d))
   unfolding reading
   reading-done h p = ap₂ (readingBy c d) (le-ltb 1023 c h) p
+
+-- a result has a disparity, whichever it is
+has-disparity : (d : ℤ) (o q : Option Symbol) → (e : ℤ) × (result d o q .disparity ≡ some e)
+has-disparity d (some s) q = (closing s d, refl)
+has-disparity d none (some s) = (closing s (negℤ d), refl)
+has-disparity d none none = (d, refl)
+
+-- reading refuses with 1 and with no other number
+pub reading-refused : (c : ℕ) (d : ℤ) (n : ℕ) → notRead n ≡ reading c d → n ≡ 1
+unfolding reading
+reading-refused c d n = go (ltb 1023 c) (isDisparity d)
+  where
+    go : (far p : Bool) → notRead n ≡ readingBy c d far p → n ≡ 1
+    go true p e = ap (λ (r : Reading). r .refusal) e
+    go false false e = ap (λ (r : Reading). r .refusal) e
+    go false true e =
+        let h = has-disparity d (firstWith symbols c d) (firstWith symbols c (negℤ d)) in
+        let a : none ≡ some (h .0) = ap (λ (r : Reading). r .disparity) e ∙ h .1 in
+        let z : _≡_ {A = ℕ} 0 1 = cc in
+        absurd (omega arith)

@@ -7,8 +7,9 @@ use Prim.Native.Nat.{ℕ, _+_, _*_, _/_, _%_, _<_, _≤_}
 use native.Mathlib.Omega.{arith}
 use lib.Dec.{T, eqb, leb}
 use lib.IntN.{ℤ, negℤ}
-use borrow.Author.Tests.{le-leb, lt-leb}
+use borrow.Author.Tests.{eq-eqb, le-leb, lt-leb}
 use Rattle.laws.proofs.Bools.{T-true}
+use Rattle.symbol.specs.Symbols.{dataSymbol}
 use Rattle.symbol.specs.declared.Symbol.{Symbol}
 use Rattle.character_rules.specs.Disparity.{isPlus, isDisparity, disparityOf}
 use Rattle.character_rules.specs.Blocks.{closing}
@@ -58,6 +59,14 @@ module _ (b : ℕ) (k : Bool) (v : ℕ) (p : Bool) (hb : b < 256) (hv : v < 4) w
 high : (b : ℕ) (k : Bool) (v : ℕ) (p : Bool) → b < 256 → v < 4 → leb 2048 (joined b k v p) ≡ p
 high b k v true hb hv = le-leb 2048 (joined b k v true) (omega (arith, mark-low k))
 high b k v false hb hv = lt-leb 2048 (joined b k v false) (omega (arith, mark-low k))
+
+-- a number with no violation and no control mark is clean data
+pub unpacked-data : (n : ℕ) → n % 2048 < 256 → unpacked n ≡ clean (dataSymbol (n % 256)) (packedDisparity n)
+unfolding unpacked
+unpacked-data n h =
+    let a : n / 512 % 4 ≡ 0 = omega arith in
+    let b : n / 256 % 2 ≡ 0 = omega arith in
+    rw (eq-eqb (n / 512 % 4) 0 a) (ap (λ (x : Bool). clean (record { byte = n % 256; control = x }) (packedDisparity n)) (ap (λ (y : ℕ). eqb y 1) b))
 
 -- ---- what an answer of the reader holds: a byte and a disparity
 

@@ -3,6 +3,7 @@
 use mathlib.Core.Path.{_≡_, refl, sym, _∙_, ap, ap₂, subst}
 use mathlib.Core.Bool.{Bool, true, false, not, _||_}
 use mathlib.Core.List.{List, [], _∷_, _++_, append-assoc, append-nil}
+use mathlib.Core.Option.{Option, none, some}
 use Prim.Native.Nat.{ℕ, zero, suc, _+_, _≤_, _<_}
 use native.Mathlib.Numerals.{add-one}
 use native.Mathlib.Omega.{arith}
@@ -49,6 +50,20 @@ module _ (cs : List ℕ) (d : ℤ) (out : List ℕ) where
 
   pub run-done : isDisparity d ≡ true → allOf inRange cs ≡ true → length cs ≤ length out → (runRead (runClosing cs d) ≡ runReading cs d (length out)) × (runResults cs d ++ drop (length cs) out ≡ runOutput cs d out)
   run-done e f h = by-tests e f (le-ltb (length out) (length cs) h)
+
+  -- a refused run leaves the output as it stood
+  pub run-leaves : (n : ℕ) → notRunRead n ≡ runReading cs d (length out) → runOutput cs d out ≡ out
+  unfolding runReading runOutput
+  run-leaves n = go (isDisparity d) (allOf inRange cs) (ltb (length out) (length cs))
+    where
+      go : (p q s : Bool) → notRunRead n ≡ answerBy p q s → outputBy p q s ≡ out
+      go false q s e = refl
+      go true false s e = refl
+      go true true true e = refl
+      go true true false e =
+          let a : none ≡ some (runClosing cs d) = ap (λ (r : RunReading). r .disparity) e in
+          let z : _≡_ {A = ℕ} 0 1 = cc in
+          absurd (omega arith)
 
 -- ---- every character in range
 

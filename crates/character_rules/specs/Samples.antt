@@ -20,6 +20,9 @@ pub record Samples : Type 0 where
   pub k28-7 : reading 0b0011111000 (negsuc 0) ≡ clean (K 28 7) (negsuc 0)
   pub k28-7-at-plus : reading 0b0011111000 (pos 1) ≡ wrongDisparity (K 28 7) (negsuc 0)
   pub nothing : reading 0 (pos 1) ≡ invalid (pos 1)
+  -- the two characters of document 01's listing: K28.0, which is IDL, and D21.5
+  pub idle : reading 0b0011110100 (negsuc 0) ≡ clean (K 28 0) (negsuc 0)
+  pub d21-5 : reading 0b1010101010 (negsuc 0) ≡ clean (D 21 5) (negsuc 0)
   -- K28.5 closes at +1, where its other column is legal: twice clean from −1, into an output that is longer by one
   pub run-closing : runReading (0b0011111010 ∷ 0b1100000101 ∷ []) (negsuc 0) 3 ≡ runRead (negsuc 0)
   pub run-output :

@@ -3,10 +3,10 @@
 use mathlib.Core.Path.{_≡_, refl, sym, _∙_, ap, subst}
 use mathlib.Core.Bool.{Bool, true, false}
 use mathlib.Core.List.{List}
-use Prim.Native.Nat.{ℕ, _+_, _-_, _*_, _/_, _%_, _≤_, _<_}
+use Prim.Native.Nat.{ℕ, _+_, _-_, _%_, _≤_, _<_}
 use native.Mathlib.Omega.{arith}
-use borrow.Author.Tests.{eq-eqb, ne-eqb, lt-leb}
-use lib.Dec.{T, eqb, leb}
+use borrow.Author.Tests.{lt-leb}
+use lib.Dec.{T, leb}
 use lib.IntN.{ℤ}
 use lib.ListN.{length, getD, set, length-set}
 use Rattle.symbol.specs.Symbols.{dataSymbol}
@@ -14,7 +14,7 @@ use Rattle.character_rules.specs.Disparity.{disparityOf}
 use Rattle.character_rules.specs.Answers.{Reading, clean}
 use Rattle.character_rules.specs.Reading.{reading}
 use Rattle.character_rules.specs.Results.{packed, packedDisparity, unpacked}
-use Rattle.character_rules.proofs.Packed.{unpacked-reading}
+use Rattle.character_rules.proofs.Packed.{unpacked-data, unpacked-reading}
 use Rattle.crc.specs.Crc16.{crcByte}
 use Rattle.packet_rules.specs.declared.DataPacket.{DataPacket}
 use Rattle.packet_rules.specs.declared.DataPacket.the-variants.{InData}
@@ -28,15 +28,6 @@ use Rattle.packet_rules.proofs.Runs.{gives}
 use Rattle.packet_rules.proofs.Steps.{st, on-byte}
 use Rattle.events_rules.specs.Numbers.{packedEvent}
 use Rattle.events_rules.proofs.Runs.{Ran, disparity-is, ran-none, ran-then, ran-one}
-
--- ---- a packed result that is clean data
-
-pub clean-data : (n : ℕ) → n % 2048 < 256 → unpacked n ≡ clean (dataSymbol (n % 256)) (packedDisparity n)
-unfolding unpacked
-clean-data n h =
-    let a : n / 512 % 4 ≡ 0 = omega arith in
-    let b : n / 256 % 2 ≡ 0 = omega arith in
-    rw (eq-eqb (n / 512 % 4) 0 a) (ap (λ (x : Bool). clean (record { byte = n % 256; control = x }) (packedDisparity n)) (ap (λ (y : ℕ). eqb y 1) b))
 
 -- ---- states that take bytes, by how many came and by the register
 
@@ -85,7 +76,7 @@ module _ (cs : List ℕ) (until i : ℕ) (p : Bool) (c : ℕ) (old : List ℕ) (
   module _ (j : ℕ) (q : Bool) (x : ℕ) (out : List ℕ) (n : ℕ) (fed : Fed cs until i p c old j q x out) (h : j < until) (g : getD cs j 0 < 1024)
       (fits : length cs ≤ length out) (is : n ≡ packed (reading (getD cs j 0) (disparityOf q))) (data-result : n % 2048 < 256) where
     result : reading (getD cs j 0) (disparityOf q) ≡ clean (dataSymbol (n % 256)) (packedDisparity n)
-    result = sym (unpacked-reading (getD cs j 0) (disparityOf q) (omega arith) (disparity-is q)) ∙ ap unpacked (sym is) ∙ clean-data n data-result
+    result = sym (unpacked-reading (getD cs j 0) (disparityOf q) (omega arith) (disparity-is q)) ∙ ap unpacked (sym is) ∙ unpacked-data n data-result
 
     -- one byte more
     pub fed-one : Fed cs until i p c old (j + 1) (leb 2048 n) (crcByte x (n % 256)) (set out j (262144 + n % 256))

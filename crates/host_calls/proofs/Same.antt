@@ -8,7 +8,7 @@ use mathlib.Core.Option.{Option, none, some}
 use lib.Dec.{eqb}
 use Rattle.laws.proofs.Cases.{by-cases, false-is-not-true}
 use Rattle.refusal.specs.Order.{Check, refusalOf, outcome, left}
-use Rattle.refusal.proofs.Laws.{done, refused, hands-back}
+use Rattle.refusal.proofs.Laws.{done, hands-back}
 use Rattle.host_rules.specs.Numbers.{stands, Called, called}
 use Rattle.events_rules.specs.Numbers.{isGiven}
 
@@ -30,8 +30,3 @@ module _ {A : Type 0} (cs : List Check) (f : ℕ → A) (x : A) (n : ℕ) (apart
   -- it leaves what it was lent
   pub refused-leaves : {B : Type 0} (old new : B) → left cs old new ≡ old
   refused-leaves old new = hands-back cs old new stops
-
-  -- and its number is not 0
-  pub refused-number : (number : A → ℕ) → ((m : ℕ) → number (f m) ≡ m) → n ≡ 0 → ⊥
-  refused-number number numbered z =
-      stops (sym (numbered (refusalOf cs)) ∙ ap number (sym (e ∙ refused cs f x stops)) ∙ numbered n ∙ z)

@@ -1,32 +1,43 @@
 -- The definitions computed: the document's example, the empty capture, refused ones, and the line of each event. Text is in ASCII; beside each row
 -- stands what it says.
 -- Assumes nothing.
-use mathlib.Core.Path.{_≡_, refl}
+use mathlib.Core.Path.{_≡_, refl, _∙_, ap}
 use mathlib.Core.Bool.{true, false}
-use mathlib.Core.List.{List, [], _∷_, map}
+use mathlib.Core.List.{List, [], _∷_, _++_, map}
 use mathlib.Core.Option.{none, some}
 use Prim.Native.Nat.{ℕ}
+use lib.IntN.{negsuc}
 use lib.ListN.{replicate}
-use Rattle.character_rules.specs.Reading.{symbols, reading}
 use Rattle.symbol.specs.Symbols.{isTwelve}
-use Rattle.character_rules.specs.Blocks.{sixBlocks, fourBlocks, controlFourBlocks, sixBlock, fourByList, fourBlock, firstBlock, between, secondBlock, character, closing}
+use Rattle.character_rules.specs.Answers.{Reading, clean}
+use Rattle.character_rules.specs.Results.{newDisparity}
+use Rattle.character_rules.specs.Bench.{D, K}
+use Rattle.character_rules.proofs.BenchSamples.{samples}
 use Rattle.crc.specs.Crc16.{crcStart}
 use Rattle.packet_rules.specs.Symbols.{kindOf, controlKind}
 use Rattle.capture_rules.specs.Capture.{charactersOf, closingBits, legal}
 use Rattle.packet_rules.specs.Answers.{Said, nothing, started, gaveByte, ended, replied, violated}
 use Rattle.segment_size.specs.Sizes.{sizeAllowed}
-use Rattle.packet_rules.specs.State.{wellFormed}
+use Rattle.packet_rules.specs.State.{fresh, wellFormed}
 use Rattle.packet_rules.specs.Violations.{violationOf}
 use Rattle.packet_rules.specs.Step.{broken, dropped, readOf, stepOf}
 use Rattle.packet_rules.specs.Line.{saidOf}
 use Rattle.listing_rules.specs.Text.{decimal}
 use Rattle.events_rules.specs.Events.{readingsOf}
-use Rattle.listing_rules.specs.Lines.{fieldsOf, eventLine, listed, linesFrom, eventsIn, listingOf}
+use Rattle.listing_rules.specs.Lines.{fieldsOf, eventLine, listed, linesFrom, eventsIn, header, endLine, listingOf}
+
+-- its two characters: IDL, then D21.5
+example-read : readingsOf (charactersOf (0x3D ∷ 0x2A ∷ 0xA0 ∷ [])) (negsuc 0) ≡ clean (K 28 0) (negsuc 0) ∷ clean (D 21 5) (negsuc 0) ∷ []
+unfolding readingsOf charactersOf
+example-read =
+    ap (λ (r : Reading). r ∷ readingsOf (0b1010101010 ∷ []) (newDisparity (negsuc 0) (r .disparity))) (samples .idle)
+    ∙ ap (λ (r : Reading). clean (K 28 0) (negsuc 0) ∷ r ∷ []) (samples .d21-5)
 
 -- place event detail; 1 violation 9; end 2 1
 pub document-example : listingOf (0x3D ∷ 0x2A ∷ 0xA0 ∷ []) ≡ 112 ∷ 108 ∷ 97 ∷ 99 ∷ 101 ∷ 32 ∷ 101 ∷ 118 ∷ 101 ∷ 110 ∷ 116 ∷ 32 ∷ 100 ∷ 101 ∷ 116 ∷ 97 ∷ 105 ∷ 108 ∷ 10 ∷ 49 ∷ 32 ∷ 118 ∷ 105 ∷ 111 ∷ 108 ∷ 97 ∷ 116 ∷ 105 ∷ 111 ∷ 110 ∷ 32 ∷ 57 ∷ 10 ∷ 101 ∷ 110 ∷ 100 ∷ 32 ∷ 50 ∷ 32 ∷ 49 ∷ 10 ∷ []
-unfolding listingOf legal closingBits charactersOf saidOf readingsOf reading symbols stepOf readOf sizeAllowed wellFormed violationOf broken dropped linesFrom eventsIn decimal isTwelve sixBlocks fourBlocks controlFourBlocks sixBlock fourByList fourBlock firstBlock between secondBlock character closing kindOf controlKind crcStart
-document-example = refl
+unfolding listingOf legal closingBits charactersOf saidOf stepOf readOf sizeAllowed wellFormed violationOf broken dropped linesFrom eventsIn decimal isTwelve kindOf controlKind crcStart
+document-example =
+    ap (λ (gs : List Reading). header ++ (linesFrom 0 (saidOf (fresh 8) gs) ++ endLine 2 (eventsIn (saidOf (fresh 8) gs)))) example-read
 
 -- place event detail; end 0 0
 pub empty-capture : listingOf [] ≡ 112 ∷ 108 ∷ 97 ∷ 99 ∷ 101 ∷ 32 ∷ 101 ∷ 118 ∷ 101 ∷ 110 ∷ 116 ∷ 32 ∷ 100 ∷ 101 ∷ 116 ∷ 97 ∷ 105 ∷ 108 ∷ 10 ∷ 101 ∷ 110 ∷ 100 ∷ 32 ∷ 48 ∷ 32 ∷ 48 ∷ 10 ∷ []
