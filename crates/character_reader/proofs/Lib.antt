@@ -1,3 +1,4 @@
 pub mod Unpacking
 pub mod Runs
 pub mod Ranges
+pub mod Halves
