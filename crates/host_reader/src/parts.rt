@@ -5,7 +5,8 @@ use packet_rules::Phase;
 use packet_rules::PriorityPacket;
 ghost use mathlib.Core.Path.{_≡_};
 ghost use Rattle.host_rules.specs.Numbers.{markNumber};
-ghost use Rattle.host_rules.specs.ReaderBytes.{packetTag, packetChannel, packetRegister, priorityTag, priorityOpening, priorityCount, priorityRegister, dueTag, dueFirst, dueSecond, phaseTag, phaseFirst, phaseSecond};
+ghost use Rattle.host_rules.specs.ReaderBytes.{packetTag, packetChannel, packetRegister, priorityTag, priorityOpening, priorityCount, priorityRegister};
+ghost use Rattle.host_rules.specs.ReaderBytes.{dueTag, dueFirst, dueSecond, phaseTag, phaseFirst, phaseSecond};
 
 pub fn mark_number(mark: bool) -> u8
     ensures { λ r. ⌜ r ≡ markNumber mark ⌝ }

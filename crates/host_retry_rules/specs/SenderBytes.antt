@@ -70,7 +70,9 @@ countersIn b =
     }
 
 unfoldable pub lengthsIn : List ℕ → List ℕ
-lengthsIn b = two (at b 13) (at b 14) ∷ two (at b 15) (at b 16) ∷ two (at b 17) (at b 18) ∷ two (at b 19) (at b 20) ∷ two (at b 21) (at b 22) ∷ two (at b 23) (at b 24) ∷ two (at b 25) (at b 26) ∷ two (at b 27) (at b 28) ∷ []
+lengthsIn b =
+    two (at b 13) (at b 14) ∷ two (at b 15) (at b 16) ∷ two (at b 17) (at b 18) ∷ two (at b 19) (at b 20)
+    ∷ two (at b 21) (at b 22) ∷ two (at b 23) (at b 24) ∷ two (at b 25) (at b 26) ∷ two (at b 27) (at b 28) ∷ []
 
 unfoldable pub channelsIn : List ℕ → List ℕ
 channelsIn b = at b 29 ∷ at b 30 ∷ at b 31 ∷ at b 32 ∷ at b 33 ∷ at b 34 ∷ at b 35 ∷ at b 36 ∷ []
