@@ -78,7 +78,8 @@ abbrev theOne : ℤ → Option ℤ → ℤ
 theOne d none = d
 theOne d (some e) = e
 
-module _ (capture : List ℕ) (p : Reached) (ok : legal capture ≡ true) (k : keepsRule p ≡ true) (h : p .place < characterCount (length capture)) (n : ℕ) (en : n ≡ blockLength (characterCount (length capture) - p .place)) where
+module _ (capture : List ℕ) (p : Reached) (ok : legal capture ≡ true) (k : keepsRule p ≡ true) (h : p .place < characterCount (length capture))
+    (n : ℕ) (en : n ≡ blockLength (characterCount (length capture) - p .place)) where
   abbrev cs : List ℕ
   cs = nextCharacters capture (p .place)
 
@@ -104,7 +105,9 @@ module _ (capture : List ℕ) (p : Reached) (ok : legal capture ≡ true) (k : k
   signed = rule-disparity cs p k
 
   -- the characters and their results, as the code holds them
-  module _ (characters zeros results out : List ℕ) (d : ℤ) (r : RunRead) (room : 64 ≤ length zeros) (hold : characters ≡ take n left ++ drop n results) (ed : d ≡ p .disparity) (said : runSays r ≡ runReading (take n characters) d (length zeros)) (output : out ≡ runOutput (take n characters) d zeros) where
+  module _ (characters zeros results out : List ℕ) (d : ℤ) (r : RunRead) (room : 64 ≤ length zeros)
+      (hold : characters ≡ take n left ++ drop n results) (ed : d ≡ p .disparity) (said : runSays r ≡ runReading (take n characters) d (length zeros))
+      (output : out ≡ runOutput (take n characters) d zeros) where
     ours : take n characters ≡ cs
     ours = ap (take n) hold ∙ take-at (take n left) (drop n results) n (ap length taken ∙ size) ∙ taken
 
@@ -124,7 +127,8 @@ module _ (capture : List ℕ) (p : Reached) (ok : legal capture ≡ true) (k : k
         let z : isSome none ≡ isSome (some (runClosing cs (p .disparity))) = ap (λ (x : RunReading). isSome (x .disparity)) (sym (ap runSays f) ∙ done .0) in
         omega arith
 
-    module _ (e again : ℤ) (is : r ≡ Read e) (ea : again ≡ e) (old new : List ℕ) (q : Progress) (l : Listed (p .place) (take n out) (record { at = 0; events = p .events; reader = p .reader }) old new q) where
+    module _ (e again : ℤ) (is : r ≡ Read e) (ea : again ≡ e) (old new : List ℕ) (q : Progress)
+        (l : Listed (p .place) (take n out) (record { at = 0; events = p .events; reader = p .reader }) old new q) where
       closes : again ≡ runClosing cs (p .disparity)
       closes = ea ∙ ap (λ (x : RunReading). theOne e (x .disparity)) (sym (ap runSays is) ∙ done .0)
 
@@ -158,7 +162,8 @@ module _ (capture : List ℕ) (p : Reached) (ok : legal capture ≡ true) (k : k
 
 -- ---- the last line
 
-pub end-is : (capture : List ℕ) (p : Reached) (n : ℕ) (old new : List ℕ) → characterCount (length capture) ≤ p .place → n ≡ length (endLine (p .place) (p .events)) → new ≡ endLine (p .place) (p .events) ++ drop (length (endLine (p .place) (p .events))) old
+pub end-is : (capture : List ℕ) (p : Reached) (n : ℕ) (old new : List ℕ) → characterCount (length capture) ≤ p .place
+    → n ≡ length (endLine (p .place) (p .events)) → new ≡ endLine (p .place) (p .events) ++ drop (length (endLine (p .place) (p .events))) old
     → (wrote n Ended ≡ doneSays capture (Going p)) × (new ≡ pieceOf capture (Going p) ++ drop (length (pieceOf capture (Going p))) old)
 unfolding pieceOf listingAfter
 end-is capture p n old new h a b =

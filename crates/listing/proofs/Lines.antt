@@ -53,7 +53,9 @@ event-short place (Lmp false n) = numbered-short place n (space ∷ (lmpWord ++ 
 
 -- ---- one result
 
-module _ (place result : ℕ) (p : Progress) (old new : List ℕ) (g : Decoded) (s : Step) (after n : ℕ) (eg : readingSays g ≡ unpacked result) (es : stepSays s ≡ stepOf (p .reader) (readingSays g)) (w : Wrote (p .at) (eventLine place (fieldsOf (eventSays (s .event)))) old new after) (en : n ≡ listed (fieldsOf (eventSays (s .event)))) where
+module _ (place result : ℕ) (p : Progress) (old new : List ℕ) (g : Decoded) (s : Step) (after n : ℕ) (eg : readingSays g ≡ unpacked result)
+    (es : stepSays s ≡ stepOf (p .reader) (readingSays g)) (w : Wrote (p .at) (eventLine place (fieldsOf (eventSays (s .event)))) old new after)
+    (en : n ≡ listed (fieldsOf (eventSays (s .event)))) where
   step-is : stepSays s ≡ stepOf (p .reader) (unpacked result)
   step-is = es ∙ ap (stepOf (p .reader)) eg
 
@@ -118,7 +120,8 @@ listed-few {place} {xs} {p} {q} l =
     omega arith
 
 -- one result more of a run
-module _ (results : List ℕ) (place : ℕ) (p q t : Progress) (old mid new : List ℕ) (i : ℕ) (a : Listed place (take i results) p old mid q) (h : i < length results) (b : Listed (place + i) (getD results i 0 ∷ []) q mid new t) where
+module _ (results : List ℕ) (place : ℕ) (p q t : Progress) (old mid new : List ℕ) (i : ℕ) (a : Listed place (take i results) p old mid q)
+    (h : i < length results) (b : Listed (place + i) (getD results i 0 ∷ []) q mid new t) where
   pub listed-next : Listed place (take (i + 1) results) p old new t
   listed-next =
       let size : length (take i results) ≡ i = length-take-le i results (omega arith) in

@@ -84,7 +84,8 @@ unfolding nextSays nextLeaves nextChecks pieceOf
 ended-comes capture l old is = subst (λ (x : Listing). Comes capture x (wroteNothing Ended) old old) (sym is) (refl, refl)
 
 module _ (capture : List ℕ) (l : Listing) (p : Reached) (is : l ≡ Going p) (old : List ℕ) where
-  refused-comes : (a : Next) (n : ℕ) → a ≡ record { piece = Refused n; listing = Going p } → nextSays capture (Going p) ≡ refused (Going p) n → nextLeaves capture (Going p) old ≡ old
+  refused-comes : (a : Next) (n : ℕ) → a ≡ record { piece = Refused n; listing = Going p } → nextSays capture (Going p) ≡ refused (Going p) n
+      → nextLeaves capture (Going p) old ≡ old
       → Comes capture l (says a) old old
   refused-comes a n e f g =
       subst (λ (x : Listing). Comes capture x (says a) old old) (sym is)

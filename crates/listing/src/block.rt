@@ -84,7 +84,8 @@ fn block_length(left: usize) -> usize
 // The lines of the next characters.
 pub(crate) fn next_lines(capture: &[u8], p: Reached, out: &mut [u8]) -> Next
     requires { ⌜ (length (now out) ≡ 2048) × (legal (now capture) ≡ true) × (keepsRule p ≡ true) × (p .place < characterCount (length (now capture))) ⌝ }
-    ensures { λ r. ⌜ (says r ≡ doneSays (now (capture .entry)) (IsGoing p)) × (now (out .exit) ≡ pieceOf (now (capture .entry)) (IsGoing p) ++ drop (length (pieceOf (now (capture .entry)) (IsGoing p))) (now (out .entry))) ⌝ }
+    ensures { λ r. ⌜ (says r ≡ doneSays (now (capture .entry)) (IsGoing p))
+        × (now (out .exit) ≡ pieceOf (now (capture .entry)) (IsGoing p) ++ drop (length (pieceOf (now (capture .entry)) (IsGoing p))) (now (out .entry))) ⌝ }
 {
     let place = p.place;
     let n = block_length(8 * capture.len() / 10 - place);
@@ -116,7 +117,8 @@ pub(crate) fn next_lines(capture: &[u8], p: Reached, out: &mut [u8]) -> Next
 // The last line.
 pub(crate) fn put_end(characters: usize, events: usize, out: &mut [u8]) -> usize
     requires { ⌜ length (now out) ≡ 2048 ⌝ }
-    ensures { λ r. ⌜ (r ≡ length (endLine characters events)) × (now (out .exit) ≡ endLine characters events ++ drop (length (endLine characters events)) (now (out .entry))) ⌝ }
+    ensures { λ r. ⌜ (r ≡ length (endLine characters events))
+        × (now (out .exit) ≡ endLine characters events ++ drop (length (endLine characters events)) (now (out .entry))) ⌝ }
 {
     let a = text::put(b"end ", 0, &mut *out);
     let b = text::put_number(characters, a, &mut *out);

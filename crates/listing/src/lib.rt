@@ -41,7 +41,8 @@ fn keeps_rule(p: Reached) -> bool
 // The header, or the one line of a refused capture.
 fn first_piece(capture: &[u8], out: &mut [u8]) -> Next
     requires { ⌜ length (now out) ≡ 2048 ⌝ }
-    ensures { λ r. ⌜ (says r ≡ doneSays (now (capture .entry)) IsFresh) × (now (out .exit) ≡ pieceOf (now (capture .entry)) IsFresh ++ drop (length (pieceOf (now (capture .entry)) IsFresh)) (now (out .entry))) ⌝ }
+    ensures { λ r. ⌜ (says r ≡ doneSays (now (capture .entry)) IsFresh)
+        × (now (out .exit) ≡ pieceOf (now (capture .entry)) IsFresh ++ drop (length (pieceOf (now (capture .entry)) IsFresh)) (now (out .entry))) ⌝ }
 {
     if !capture::is_legal(capture) {
         let n = text::put(b"refused 8\n", 0, out);
@@ -74,7 +75,8 @@ fn first_piece(capture: &[u8], out: &mut [u8]) -> Next
 // The lines of the next characters, or the last line.
 fn later_piece(capture: &[u8], p: Reached, out: &mut [u8]) -> Next
     requires { ⌜ (length (now out) ≡ 2048) × (legal (now capture) ≡ true) × (keepsRule p ≡ true) × (p .place ≤ characterCount (length (now capture))) ⌝ }
-    ensures { λ r. ⌜ (says r ≡ doneSays (now (capture .entry)) (IsGoing p)) × (now (out .exit) ≡ pieceOf (now (capture .entry)) (IsGoing p) ++ drop (length (pieceOf (now (capture .entry)) (IsGoing p))) (now (out .entry))) ⌝ }
+    ensures { λ r. ⌜ (says r ≡ doneSays (now (capture .entry)) (IsGoing p))
+        × (now (out .exit) ≡ pieceOf (now (capture .entry)) (IsGoing p) ++ drop (length (pieceOf (now (capture .entry)) (IsGoing p))) (now (out .entry))) ⌝ }
 {
     if p.place < 8 * capture.len() / 10 {
         return block::next_lines(capture, p, out);

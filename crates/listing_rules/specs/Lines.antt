@@ -10,7 +10,8 @@ use Rattle.packet_rules.specs.Answers.{Said, Start, Reply}
 use Rattle.packet_rules.specs.State.{fresh}
 use Rattle.packet_rules.specs.Line.{saidOf}
 use Rattle.events_rules.specs.Events.{readingsOf}
-use Rattle.listing_rules.specs.Text.{decimal, line, placeWord, eventWord, detailWord, violationWord, startWord, endWord, lmpWord, dataWord, priorityWord, goodWord, badWord, ackWord, nackWord, refusedWord}
+use Rattle.listing_rules.specs.Text.{decimal, line, placeWord, eventWord, detailWord, violationWord, startWord, endWord, lmpWord}
+use Rattle.listing_rules.specs.Text.{dataWord, priorityWord, goodWord, badWord, ackWord, nackWord, refusedWord}
 
 -- ---- the event's word and its detail, as fields; none for nothing and for a byte
 

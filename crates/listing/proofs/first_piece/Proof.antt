@@ -22,8 +22,14 @@ same-length c = search needs
 
 returns : tie.Need-returns
 unfolding decimal
-returns c = let s = c .before .before .before .before .before .before .before .before .before in
-    refused-is (s .args .capture .now) (s .args .out .now) (c .before .before .put .last .1 .1 .0) (c .before .before .put .result) (sym (c .before .before .before .before .before .before .is-legal .ensures) ∙ not-true _ (c .before .before .before .before .before .if1 .taken)) (c .before .before .put .ensures)
+returns c =
+    let the-put = c .before .before .put in
+    let the-test1 = c .before .before .before .before .before .if1 in
+    let the-is-legal = c .before .before .before .before .before .before .is-legal in
+    let the-before = c .before .before .before .before .before .before .before .before .before in
+    let s = the-before in
+    refused-is (s .args .capture .now) (s .args .out .now) (the-put .last .1 .1 .0) (the-put .result)
+    (sym (the-is-legal .ensures) ∙ not-true _ (the-test1 .taken)) (the-put .ensures)
 
 slice-aggregate-put-2 : tie.Need-slice-aggregate-put-2
 slice-aggregate-put-2 c = search needs
@@ -44,15 +50,27 @@ same-length-2 : tie.Need-same-length-2
 same-length-2 c = search needs
 
 returns-2 : tie.Need-returns-2
-returns-2 c = let s = c .before .before .before .before .before .before .before .before .before .before .before .before .before in
-    header-is (s .args .capture .now) (s .args .out .now) (c .before .before .before .before .before .before .put2 .last .1 .1 .0) (c .before .before .before .before .before .before .put2 .result) (c .before .before .before .fresh .result) (c .before .before .before .fresh .ensures) (c .before .reader .given .0 .0) (c .before .reader .given .1) (sym (c .before .before .before .before .before .before .before .before .before .before .is-legal .ensures) ∙ not-false _ (c .before .before .before .before .before .before .before .before .before .if1 .left)) (c .before .before .before .before .before .before .put2 .ensures)
+returns-2 c =
+    let the-fresh = c .before .before .before .fresh in
+    let the-put2 = c .before .before .before .before .before .before .put2 in
+    let the-test1 = c .before .before .before .before .before .before .before .before .before .if1 in
+    let the-is-legal = c .before .before .before .before .before .before .before .before .before .before .is-legal in
+    let the-before = c .before .before .before .before .before .before .before .before .before .before .before .before .before in
+    let s = the-before in
+    header-is (s .args .capture .now) (s .args .out .now) (the-put2 .last .1 .1 .0) (the-put2 .result) (the-fresh .result) (the-fresh .ensures)
+    (c .before .reader .given .0 .0) (c .before .reader .given .1) (sym (the-is-legal .ensures) ∙ not-false _ (the-test1 .left)) (the-put2 .ensures)
 
 same-length-3 : tie.Need-same-length-3
 same-length-3 c = search needs
 
 returns-3 : tie.Need-returns-3
-returns-3 c = let s = c .before .before .before .before .before .before .before .before .before .before .before .before .before in
-    absurd (never-refused (s .args .capture .now) (s .args .out .now) (c .before .before .before .before .before .before .put2 .last .1 .1 .0) (c .before .before .before .before .before .before .put2 .result) (c .before .before .before .fresh .result) (c .before .before .before .fresh .ensures) (c .before .r .given .0 .0) (c .before .r .given .1))
+returns-3 c =
+    let the-fresh = c .before .before .before .fresh in
+    let the-put2 = c .before .before .before .before .before .before .put2 in
+    let the-before = c .before .before .before .before .before .before .before .before .before .before .before .before .before in
+    let s = the-before in
+    absurd
+    (never-refused (s .args .capture .now) (s .args .out .now) (the-put2 .last .1 .1 .0) (the-put2 .result) (the-fresh .result) (the-fresh .ensures) (c .before .r .given .0 .0) (c .before .r .given .1))
 
 pub first-piece-spec : {M : Type 1} → statement M
 first-piece-spec =

@@ -17,13 +17,26 @@ is-disparity-requires : tie.Need-is-disparity-requires
 is-disparity-requires c κs = search needs
 
 returns-2 : tie.Need-returns-2
-returns-2 c = no-disparity (c .before .before .before .before .before .args .p) (c .before .before .before .if1 .left) (ap isDisparity (sym (toZ-ofZ {w = w32} {z = c .before .before .before .before .before .args .p .disparity} (record { sfits = c .before .before .struct-told .given .1 .1 .0 .1 }))) ∙ sym (c .before .is-disparity .ensures) ∙ not-true _ (c .if2 .taken))
+returns-2 c =
+    let the-struct-told = c .before .before .struct-told in
+    let the-test1 = c .before .before .before .if1 in
+    let s = c .before .before .before .before .before in
+    no-disparity (s .args .p) (the-test1 .left)
+    (ap isDisparity (sym (toZ-ofZ {w = w32} {z = s .args .p .disparity} (record { sfits = the-struct-told .given .1 .1 .0 .1 }))) ∙ sym (c .before .is-disparity .ensures) ∙ not-true _ (c .if2 .taken))
 
 is-well-formed-requires : tie.Need-is-well-formed-requires
 is-well-formed-requires c κs = search needs
 
 returns-3 : tie.Need-returns-3
-returns-3 c = by-reader (c .before .before .before .before .before .before .before .args .p) (c .before .before .before .before .before .if1 .left) _ (ap isDisparity (sym (toZ-ofZ {w = w32} {z = c .before .before .before .before .before .before .before .args .p .disparity} (record { sfits = c .before .before .before .before .struct-told .given .1 .1 .0 .1 }))) ∙ sym (c .before .before .before .is-disparity .ensures) ∙ not-false _ (c .before .before .if2 .left)) (c .is-well-formed .ensures)
+returns-3 c =
+    let the-test2 = c .before .before .if2 in
+    let the-is-disparity = c .before .before .before .is-disparity in
+    let the-struct-told = c .before .before .before .before .struct-told in
+    let the-test1 = c .before .before .before .before .before .if1 in
+    let s = c .before .before .before .before .before .before .before in
+    by-reader (s .args .p) (the-test1 .left) _
+    (ap isDisparity (sym (toZ-ofZ {w = w32} {z = s .args .p .disparity} (record { sfits = the-struct-told .given .1 .1 .0 .1 }))) ∙ sym (the-is-disparity .ensures) ∙ not-false _ (the-test2 .left))
+    (c .is-well-formed .ensures)
 
 pub keeps-rule-spec : {M : Type 1} → statement M
 keeps-rule-spec =

@@ -27,8 +27,13 @@ same-length-2 : tie.Need-same-length-2
 same-length-2 c = search needs
 
 returns-2 : tie.Need-returns-2
-returns-2 c = let s = c .before .before .before .before .before .before .before .before in
-    end-is (s .args .capture .now) (s .args .p) (c .before .before .put-end .result) (s .args .out .now) (c .before .before .put-end .last .1 .1 .0) (c .before .before .before .before .if1 .left) (c .before .before .put-end .ensures .0) (c .before .before .put-end .ensures .1)
+returns-2 c =
+    let the-put-end = c .before .before .put-end in
+    let the-test1 = c .before .before .before .before .if1 in
+    let the-before = c .before .before .before .before .before .before .before .before in
+    let s = the-before in
+    end-is (s .args .capture .now) (s .args .p) (the-put-end .result) (s .args .out .now) (the-put-end .last .1 .1 .0) (the-test1 .left)
+    (the-put-end .ensures .0) (the-put-end .ensures .1)
 
 pub later-piece-spec : {M : Type 1} → statement M
 later-piece-spec =

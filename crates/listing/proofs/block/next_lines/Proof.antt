@@ -31,13 +31,23 @@ slice-aggregate-take-characters : tie.Need-slice-aggregate-take-characters
 slice-aggregate-take-characters c = search needs
 
 take-characters-requires : tie.Need-take-characters-requires
-take-characters-requires c κs = (c .before .before .before .before .pre .1, omega (arith, c .before .before .before .before .pre .3, c .before .block-length .ensures, block-low (characterCount (length (c .before .before .before .before .args .capture .now)) - c .before .before .before .before .args .p .place), block-fits (characterCount (length (c .before .before .before .before .args .capture .now)) - c .before .before .before .before .args .p .place)), omega (arith, c .before .block-length .ensures, block-low (characterCount (length (c .before .before .before .before .args .capture .now)) - c .before .before .before .before .args .p .place), block-fits (characterCount (length (c .before .before .before .before .args .capture .now)) - c .before .before .before .before .args .p .place)))
+take-characters-requires c κs =
+    let s = c .before .before .before .before in
+    (s .pre .1, omega (arith, s .pre .3, c .before .block-length .ensures, block-low (characterCount (length (s .args .capture .now)) - s .args .p .place), block-fits (characterCount (length (s .args .capture .now)) - s .args .p .place)), omega (arith, c .before .block-length .ensures, block-low (characterCount (length (s .args .capture .now)) - s .args .p .place), block-fits (characterCount (length (s .args .capture .now)) - s .args .p .place)))
 
 array-share-prefix-characters : tie.Need-array-share-prefix-characters
-array-share-prefix-characters c = omega (arith, c .before .before .before .block-length .ensures, block-low (characterCount (length (c .before .before .before .before .before .before .args .capture .now)) - c .before .before .before .before .before .before .args .p .place), block-fits (characterCount (length (c .before .before .before .before .before .before .args .capture .now)) - c .before .before .before .before .before .before .args .p .place))
+array-share-prefix-characters c =
+    let the-block-length = c .before .before .before .block-length in
+    let s = c .before .before .before .before .before .before in
+    omega
+    (arith, the-block-length .ensures, block-low (characterCount (length (s .args .capture .now)) - s .args .p .place), block-fits (characterCount (length (s .args .capture .now)) - s .args .p .place))
 
 slice-aggregate-read-run : tie.Need-slice-aggregate-read-run
-slice-aggregate-read-run c = sym (length-take-le _ _ (omega (arith, c .before .before .before .before .block-length .ensures, block-low (characterCount (length (c .before .before .before .before .before .before .before .args .capture .now)) - c .before .before .before .before .before .before .before .args .p .place), block-fits (characterCount (length (c .before .before .before .before .before .before .before .args .capture .now)) - c .before .before .before .before .before .before .before .args .p .place))))
+slice-aggregate-read-run c =
+    let the-block-length = c .before .before .before .before .block-length in
+    let s = c .before .before .before .before .before .before .before in
+    sym
+    (length-take-le _ _ (omega (arith, the-block-length .ensures, block-low (characterCount (length (s .args .capture .now)) - s .args .p .place), block-fits (characterCount (length (s .args .capture .now)) - s .args .p .place))))
 
 slice-aggregate-read-run-2 : tie.Need-slice-aggregate-read-run-2
 slice-aggregate-read-run-2 c = search needs
@@ -49,21 +59,37 @@ enum-known-disparity : tie.Need-enum-known-disparity
 enum-known-disparity c = search needs
 
 array-share-prefix-results : tie.Need-array-share-prefix-results
-array-share-prefix-results c = omega (arith, c .before .before .before .before .before .before .before .before .before .before .before .block-length .ensures, block-low (characterCount (length (c .before .before .before .before .before .before .before .before .before .before .before .before .before .before .args .capture .now)) - c .before .before .before .before .before .before .before .before .before .before .before .before .before .before .args .p .place), block-fits (characterCount (length (c .before .before .before .before .before .before .before .before .before .before .before .before .before .before .args .capture .now)) - c .before .before .before .before .before .before .before .before .before .before .before .before .before .before .args .p .place))
+array-share-prefix-results c =
+    let the-block-length = c .before .before .before .before .before .before .before .before .before .before .before .block-length in
+    let s = c .before .before .before .before .before .before .before .before .before .before .before .before .before .before in
+    omega
+    (arith, the-block-length .ensures, block-low (characterCount (length (s .args .capture .now)) - s .args .p .place), block-fits (characterCount (length (s .args .capture .now)) - s .args .p .place))
 
 slice-aggregate-put-results : tie.Need-slice-aggregate-put-results
-slice-aggregate-put-results c = sym (length-take-le _ _ (omega (arith, c .before .before .before .before .before .before .before .before .before .before .before .before .block-length .ensures, block-low (characterCount (length (c .before .before .before .before .before .before .before .before .before .before .before .before .before .before .before .args .capture .now)) - c .before .before .before .before .before .before .before .before .before .before .before .before .before .before .before .args .p .place), block-fits (characterCount (length (c .before .before .before .before .before .before .before .before .before .before .before .before .before .before .before .args .capture .now)) - c .before .before .before .before .before .before .before .before .before .before .before .before .before .before .before .args .p .place))))
+slice-aggregate-put-results c =
+    let the-block-length = c .before .before .before .before .before .before .before .before .before .before .before .before .block-length in
+    let s = c .before .before .before .before .before .before .before .before .before .before .before .before .before .before .before in
+    sym
+    (length-take-le _ _ (omega (arith, the-block-length .ensures, block-low (characterCount (length (s .args .capture .now)) - s .args .p .place), block-fits (characterCount (length (s .args .capture .now)) - s .args .p .place))))
 
 put-results-requires : tie.Need-put-results-requires
-put-results-requires c κs = let s = c .before .before .before .before .before .before .before .before .before .before .before .before .before .before .before .before in
+put-results-requires c κs =
+    let the-read-run = c .before .before .before .before .before .before .read-run in
+    let the-block-length = c .before .before .before .before .before .before .before .before .before .before .before .before .before .block-length in
+    let the-before = c .before .before .before .before .before .before .before .before .before .before .before .before .before .before .before .before in
+    let s = the-before in
     let few = count-low (s .args .capture .now) (s .pre .1) in
     let events = rule-events [] (s .args .p) (s .pre .2) in
     let low = block-low (characterCount (length (s .args .capture .now)) - s .args .p .place) in
-    let e = c .before .before .before .before .before .before .before .before .before .before .before .before .before .block-length .ensures in
-    (taken-low (c .before .before .before .before .before .before .before .before .before .before .before .before .before .block-length .result) (c .before .before .before .before .before .before .read-run .last .1 .1 .0) 64 (omega arith), s .pre .0, omega (arith, s .pre .3), omega (arith, s .pre .3))
+    let e = the-block-length .ensures in
+    (taken-low (the-block-length .result) (the-read-run .last .1 .1 .0) 64 (omega arith), s .pre .0, omega (arith, s .pre .3), omega (arith, s .pre .3))
 
 add-t30 : tie.Need-add-t30
-add-t30 c = omega (arith, count-low (c .before .before .before .before .before .before .before .before .before .before .before .before .before .before .before .before .before .before .before .before .args .capture .now) (c .before .before .before .before .before .before .before .before .before .before .before .before .before .before .before .before .before .before .before .before .pre .1), c .before .before .before .before .before .before .before .before .before .before .before .before .before .before .before .before .before .before .before .before .pre .3, c .before .before .before .before .before .before .before .before .before .before .before .before .before .before .before .before .before .block-length .ensures, block-low (characterCount (length (c .before .before .before .before .before .before .before .before .before .before .before .before .before .before .before .before .before .before .before .before .args .capture .now)) - c .before .before .before .before .before .before .before .before .before .before .before .before .before .before .before .before .before .before .before .before .args .p .place), block-fits (characterCount (length (c .before .before .before .before .before .before .before .before .before .before .before .before .before .before .before .before .before .before .before .before .args .capture .now)) - c .before .before .before .before .before .before .before .before .before .before .before .before .before .before .before .before .before .before .before .before .args .p .place))
+add-t30 c =
+    let the-block-length = c .before .before .before .before .before .before .before .before .before .before .before .before .before .before .before .before .before .block-length in
+    let s = c .before .before .before .before .before .before .before .before .before .before .before .before .before .before .before .before .before .before .before .before in
+    omega
+    (arith, count-low (s .args .capture .now) (s .pre .1), s .pre .3, the-block-length .ensures, block-low (characterCount (length (s .args .capture .now)) - s .args .p .place), block-fits (characterCount (length (s .args .capture .now)) - s .args .p .place))
 
 enum-known-r : tie.Need-enum-known-r
 enum-known-r c = search needs
@@ -73,14 +99,32 @@ same-length c = search needs
 
 returns : tie.Need-returns
 returns c = let s = c .before .before .before .before .before .before .before .before .before .before .before .before .before .before .before .before .before .before .before .before in
-    block-is (s .args .capture .now) (s .args .p) (s .pre .1) (s .pre .2) (s .pre .3) (c .before .before .before .before .before .before .before .before .before .before .before .before .before .before .before .before .before .block-length .result) (c .before .before .before .before .before .before .before .before .before .before .before .before .before .before .before .before .before .block-length .ensures)
-    (c .before .before .before .before .before .before .before .before .before .before .before .before .before .before .before .take-characters .last .1 .1 .1 .0) (replicate 64 0) (replicate 64 0) (c .before .before .before .before .before .before .before .before .before .before .read-run .last .1 .1 .0) _ (c .before .before .before .before .before .before .before .before .before .before .read-run .result) (omega arith) (c .before .before .before .before .before .before .before .before .before .before .before .before .before .before .before .take-characters .ensures) (toZ-ofZ {w = w32} {z = c .before .before .before .before .before .before .before .before .before .before .before .before .before .before .before .before .before .before .before .before .args .p .disparity} (record { sfits = c .before .before .before .before .before .before .before .before .before .before .before .struct-told .given .1 .1 .0 .1 })) (c .before .before .before .before .before .before .before .before .before .before .read-run .ensures .0) (c .before .before .before .before .before .before .before .before .before .before .read-run .ensures .1)
-    (c .before .before .before .before .before .before .before .disparity .given .0 .0) _ (c .before .before .before .before .before .before .before .disparity .given .1) (toZ-ofZ {w = w32} {z = c .before .before .before .before .before .before .before .disparity .given .0 .0} (record { sfits = c .before .before .before .before .before .before .known-told .given .0 .1 })) (s .args .out .now) (c .before .before .before .put-results .last .1 .1 .0) (c .before .before .before .put-results .result) (c .before .before .before .put-results .ensures)
+    block-is (s .args .capture .now) (s .args .p) (s .pre .1) (s .pre .2) (s .pre .3)
+    (c .before .before .before .before .before .before .before .before .before .before .before .before .before .before .before .before .before .block-length .result)
+    (c .before .before .before .before .before .before .before .before .before .before .before .before .before .before .before .before .before .block-length .ensures)
+    (c .before .before .before .before .before .before .before .before .before .before .before .before .before .before .before .take-characters .last .1 .1 .1 .0)
+    (replicate 64 0) (replicate 64 0) (c .before .before .before .before .before .before .before .before .before .before .read-run .last .1 .1 .0) _
+    (c .before .before .before .before .before .before .before .before .before .before .read-run .result) (omega arith)
+    (c .before .before .before .before .before .before .before .before .before .before .before .before .before .before .before .take-characters .ensures)
+    (toZ-ofZ {w = w32} {z = c .before .before .before .before .before .before .before .before .before .before .before .before .before .before .before .before .before .before .before .before .args .p .disparity} (record { sfits = c .before .before .before .before .before .before .before .before .before .before .before .struct-told .given .1 .1 .0 .1 }))
+    (c .before .before .before .before .before .before .before .before .before .before .read-run .ensures .0)
+    (c .before .before .before .before .before .before .before .before .before .before .read-run .ensures .1)
+    (c .before .before .before .before .before .before .before .disparity .given .0 .0) _
+    (c .before .before .before .before .before .before .before .disparity .given .1)
+    (toZ-ofZ {w = w32} {z = c .before .before .before .before .before .before .before .disparity .given .0 .0} (record { sfits = c .before .before .before .before .before .before .known-told .given .0 .1 }))
+    (s .args .out .now) (c .before .before .before .put-results .last .1 .1 .0) (c .before .before .before .put-results .result)
+    (c .before .before .before .put-results .ensures)
 
 returns-2 : tie.Need-returns-2
 returns-2 c = let s = c .before .before .before .before .before .before .before .before .before .before .before .before .before .before in
-    absurd (never-refused (s .args .capture .now) (s .args .p) (s .pre .1) (s .pre .2) (s .pre .3) (c .before .before .before .before .before .before .before .before .before .before .before .block-length .result) (c .before .before .before .before .before .before .before .before .before .before .before .block-length .ensures)
-    (c .before .before .before .before .before .before .before .before .before .take-characters .last .1 .1 .1 .0) (replicate 64 0) (replicate 64 0) (c .before .before .before .before .read-run .last .1 .1 .0) _ (c .before .before .before .before .read-run .result) (omega arith) (c .before .before .before .before .before .before .before .before .before .take-characters .ensures) (toZ-ofZ {w = w32} {z = c .before .before .before .before .before .before .before .before .before .before .before .before .before .before .args .p .disparity} (record { sfits = c .before .before .before .before .before .struct-told .given .1 .1 .0 .1 })) (c .before .before .before .before .read-run .ensures .0) (c .before .before .before .before .read-run .ensures .1) (c .before .r .given .0 .0) (c .before .r .given .1))
+    absurd
+    (never-refused (s .args .capture .now) (s .args .p) (s .pre .1) (s .pre .2) (s .pre .3) (c .before .before .before .before .before .before .before .before .before .before .before .block-length .result) (c .before .before .before .before .before .before .before .before .before .before .before .block-length .ensures)
+    (c .before .before .before .before .before .before .before .before .before .take-characters .last .1 .1 .1 .0) (replicate 64 0) (replicate 64 0)
+    (c .before .before .before .before .read-run .last .1 .1 .0) _ (c .before .before .before .before .read-run .result) (omega arith)
+    (c .before .before .before .before .before .before .before .before .before .take-characters .ensures)
+    (toZ-ofZ {w = w32} {z = c .before .before .before .before .before .before .before .before .before .before .before .before .before .before .args .p .disparity} (record { sfits = c .before .before .before .before .before .struct-told .given .1 .1 .0 .1 }))
+    (c .before .before .before .before .read-run .ensures .0) (c .before .before .before .before .read-run .ensures .1) (c .before .r .given .0 .0)
+    (c .before .r .given .1))
 
 pub next-lines-spec : {M : Type 1} → statement M
 next-lines-spec =

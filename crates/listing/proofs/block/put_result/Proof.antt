@@ -22,16 +22,28 @@ listed-events-requires : tie.Need-listed-events-requires
 listed-events-requires c κs = search needs
 
 add-events : tie.Need-add-events
-add-events c = omega (arith, c .before .before .before .before .before .before .before .before .before .before .before .pre .1, c .before .listed-events .ensures, listed-low (fieldsOf (eventSays (c .before .before .before .before .before .before .before .step .result .event))))
+add-events c =
+    let the-step = c .before .before .before .before .before .before .before .step in
+    let s = c .before .before .before .before .before .before .before .before .before .before .before in
+    omega (arith, s .pre .1, c .before .listed-events .ensures, listed-low (fieldsOf (eventSays (the-step .result .event))))
 
 same-length : tie.Need-same-length
 same-length c = search needs
 
 returns : tie.Need-returns
-returns c = let s = c .before .before .before .before .before .before .before .before .before .before .before in (
-  listed-one (s .args .place) (s .args .result) (s .args .p) (s .args .out .now) (c .before .before .before .before .put-event .last .1 .1 .1 .0) (c .before .before .before .before .before .before .before .before .unpack-result .result) (c .before .before .before .before .before .before .before .step .result) (c .before .before .before .before .put-event .result) (c .before .listed-events .result) (c .before .before .before .before .before .before .before .before .unpack-result .ensures) (c .before .before .before .before .before .before .before .step .ensures) (c .before .before .before .before .put-event .ensures) (c .before .listed-events .ensures),
-  listed-short (s .args .place) (s .args .result) (s .args .p) (s .args .out .now) (c .before .before .before .before .put-event .last .1 .1 .1 .0) (c .before .before .before .before .before .before .before .before .unpack-result .result) (c .before .before .before .before .before .before .before .step .result) (c .before .before .before .before .put-event .result) (c .before .listed-events .result) (c .before .before .before .before .before .before .before .before .unpack-result .ensures) (c .before .before .before .before .before .before .before .step .ensures) (c .before .before .before .before .put-event .ensures) (c .before .listed-events .ensures),
-)
+returns c =
+    let the-put-event = c .before .before .before .before .put-event in
+    let the-step = c .before .before .before .before .before .before .before .step in
+    let the-unpack-result = c .before .before .before .before .before .before .before .before .unpack-result in
+    let the-before = c .before .before .before .before .before .before .before .before .before .before .before in
+    let s = the-before in (
+      listed-one (s .args .place) (s .args .result) (s .args .p) (s .args .out .now) (the-put-event .last .1 .1 .1 .0) (the-unpack-result .result)
+          (the-step .result) (the-put-event .result) (c .before .listed-events .result) (the-unpack-result .ensures) (the-step .ensures)
+          (the-put-event .ensures) (c .before .listed-events .ensures),
+      listed-short (s .args .place) (s .args .result) (s .args .p) (s .args .out .now) (the-put-event .last .1 .1 .1 .0) (the-unpack-result .result)
+          (the-step .result) (the-put-event .result) (c .before .listed-events .result) (the-unpack-result .ensures) (the-step .ensures)
+          (the-put-event .ensures) (c .before .listed-events .ensures),
+    )
 
 pub put-result-spec : {M : Type 1} → statement M
 put-result-spec =

@@ -43,11 +43,16 @@ loop-less : tie.Need-loop-less Inv-loop μ-loop
 loop-less c = omega arith
 
 loop-again : tie.Need-loop-again Inv-loop μ-loop
-loop-again c = let l = c .before .before .before .before .before .before .loop in
-    let s = c .before .before .before .before .before .before .before .before .before .before in
-    let e = c .before .before .put-result .ensures in (
+loop-again c =
+    let the-put-result = c .before .before .put-result in
+    let the-loop = c .before .before .before .before .before .before .loop in
+    let the-before = c .before .before .before .before .before .before .before .before .before .before in
+    let l = the-loop in
+    let s = the-before in
+    let e = the-put-result .ensures in (
       omega arith,
-      listed-next (s .args .results .now) (s .args .from .place) _ (l .p) (c .before .before .put-result .result) (s .args .out .now) (l .out) (c .before .before .put-result .last .1 .1 .1 .0) (l .i) (l .inv .1) (omega arith) (e .0),
+      listed-next (s .args .results .now) (s .args .from .place) _ (l .p) (the-put-result .result) (s .args .out .now) (l .out)
+          (the-put-result .last .1 .1 .1 .0) (l .i) (l .inv .1) (omega arith) (e .0),
       omega (arith, e .1),
       c .before .out .given ∙ l .inv .3,
     )
@@ -56,10 +61,14 @@ same-length : tie.Need-same-length Inv-loop μ-loop
 same-length c = c .before .loop .inv .3
 
 returns : tie.Need-returns Inv-loop μ-loop
-returns c = let l = c .before .loop in
-    let s = c .before .before .before .before .before in
+returns c =
+    let the-before = c .before .before .before .before .before in
+    let l = c .before .loop in
+    let s = the-before in
     let n : l .i ≡ length (s .args .results .now) = omega arith in
-    subst (λ (t : List ℕ). Listed (s .args .from .place) t (record { at = 0; events = s .args .from .events; reader = s .args .from .reader }) (s .args .out .now) (l .out) (l .p)) (ap (λ (k : ℕ). take k (s .args .results .now)) n ∙ take-length (s .args .results .now)) (l .inv .1)
+    subst
+    (λ (t : List ℕ). Listed (s .args .from .place) t (record { at = 0; events = s .args .from .events; reader = s .args .from .reader }) (s .args .out .now) (l .out) (l .p))
+    (ap (λ (k : ℕ). take k (s .args .results .now)) n ∙ take-length (s .args .results .now)) (l .inv .1)
 
 pub put-results-spec : {M : Type 1} → statement M
 put-results-spec =

@@ -68,43 +68,85 @@ enum-told-3 : tie.Need-enum-told-3
 enum-told-3 c = search needs
 
 returns : tie.Need-returns
-returns c = subst (λ (e : Event). Wrote (c .before .before .before .args .at) (eventLine (c .before .before .before .args .place) (fieldsOf (eventSays e))) (c .before .before .before .args .out .now) (c .before .before .before .args .out .now) (c .before .before .before .args .at)) (sym (c .enum-told .given .1)) (wrote-none (c .before .before .before .args .at) (c .before .before .before .args .out .now))
+returns c =
+    let s = c .before .before .before in
+    subst
+    (λ (e : Event). Wrote (s .args .at) (eventLine (s .args .place) (fieldsOf (eventSays e))) (s .args .out .now) (s .args .out .now) (s .args .at))
+    (sym (c .enum-told .given .1)) (wrote-none (s .args .at) (s .args .out .now))
 
 same-length : tie.Need-same-length
 same-length c = search needs
 
 returns-2 : tie.Need-returns-2
-returns-2 c = subst (λ (e : Event). Wrote (c .before .before .before .before .before .before .before .before .before .args .at) (eventLine (c .before .before .before .before .before .before .before .before .before .args .place) (fieldsOf (eventSays e))) (c .before .before .before .before .before .before .before .before .before .args .out .now) (c .before .before .put-numbered .last .1 .1 .1 .1 .0) (c .before .before .put-numbered .result)) (sym (c .before .before .before .before .before .before .event .given .1)) (c .before .before .put-numbered .ensures)
+returns-2 c =
+    let the-put-numbered = c .before .before .put-numbered in
+    let the-event = c .before .before .before .before .before .before .event in
+    let s = c .before .before .before .before .before .before .before .before .before in
+    subst
+    (λ (e : Event). Wrote (s .args .at) (eventLine (s .args .place) (fieldsOf (eventSays e))) (s .args .out .now) (the-put-numbered .last .1 .1 .1 .1 .0) (the-put-numbered .result))
+    (sym (the-event .given .1)) (the-put-numbered .ensures)
 
 same-length-2 : tie.Need-same-length-2
 same-length-2 c = search needs
 
 returns-3 : tie.Need-returns-3
-returns-3 c = subst (λ (e : Event). Wrote (c .before .before .before .before .before .before .before .before .before .args .at) (eventLine (c .before .before .before .before .before .before .before .before .before .args .place) (fieldsOf (eventSays e))) (c .before .before .before .before .before .before .before .before .before .args .out .now) (c .before .before .put-numbered2 .last .1 .1 .1 .1 .0) (c .before .before .put-numbered2 .result)) (sym (c .before .before .before .before .before .before .event2 .given .1)) (c .before .before .put-numbered2 .ensures)
+returns-3 c =
+    let the-put-numbered2 = c .before .before .put-numbered2 in
+    let the-event2 = c .before .before .before .before .before .before .event2 in
+    let s = c .before .before .before .before .before .before .before .before .before in
+    subst
+    (λ (e : Event). Wrote (s .args .at) (eventLine (s .args .place) (fieldsOf (eventSays e))) (s .args .out .now) (the-put-numbered2 .last .1 .1 .1 .1 .0) (the-put-numbered2 .result))
+    (sym (the-event2 .given .1)) (the-put-numbered2 .ensures)
 
 returns-4 : tie.Need-returns-4
-returns-4 c = subst (λ (e : Event). Wrote (c .before .before .before .args .at) (eventLine (c .before .before .before .args .place) (fieldsOf (eventSays e))) (c .before .before .before .args .out .now) (c .before .before .before .args .out .now) (c .before .before .before .args .at)) (sym (c .enum-told2 .given .1)) (wrote-none (c .before .before .before .args .at) (c .before .before .before .args .out .now))
+returns-4 c =
+    let s = c .before .before .before in
+    subst
+    (λ (e : Event). Wrote (s .args .at) (eventLine (s .args .place) (fieldsOf (eventSays e))) (s .args .out .now) (s .args .out .now) (s .args .at))
+    (sym (c .enum-told2 .given .1)) (wrote-none (s .args .at) (s .args .out .now))
 
 same-length-3 : tie.Need-same-length-3
 same-length-3 c = search needs
 
 returns-5 : tie.Need-returns-5
-returns-5 c = subst (λ (e : Event). Wrote (c .before .before .before .before .before .before .before .before .args .at) (eventLine (c .before .before .before .before .before .before .before .before .args .place) (fieldsOf (eventSays e))) (c .before .before .before .before .before .before .before .before .args .out .now) (c .before .before .put-end-of-packet .last .1 .1 .1 .0) (c .before .before .put-end-of-packet .result)) (sym (c .before .before .before .before .before .event3 .given .1)) (c .before .before .put-end-of-packet .ensures)
+returns-5 c =
+    let the-put-end-of-packet = c .before .before .put-end-of-packet in
+    let the-event3 = c .before .before .before .before .before .event3 in
+    let s = c .before .before .before .before .before .before .before .before in
+    subst
+    (λ (e : Event). Wrote (s .args .at) (eventLine (s .args .place) (fieldsOf (eventSays e))) (s .args .out .now) (the-put-end-of-packet .last .1 .1 .1 .0) (the-put-end-of-packet .result))
+    (sym (the-event3 .given .1)) (the-put-end-of-packet .ensures)
 
 same-length-4 : tie.Need-same-length-4
 same-length-4 c = search needs
 
 returns-6 : tie.Need-returns-6
-returns-6 c = subst (λ (e : Event). Wrote (c .before .before .before .before .before .before .before .before .args .at) (eventLine (c .before .before .before .before .before .before .before .before .args .place) (fieldsOf (eventSays e))) (c .before .before .before .before .before .before .before .before .args .out .now) (c .before .before .put-lmp .last .1 .1 .1 .1 .0) (c .before .before .put-lmp .result)) (sym (c .before .before .before .before .before .event4 .given .1)) (c .before .before .put-lmp .ensures)
+returns-6 c =
+    let the-put-lmp = c .before .before .put-lmp in
+    let the-event4 = c .before .before .before .before .before .event4 in
+    let s = c .before .before .before .before .before .before .before .before in
+    subst
+    (λ (e : Event). Wrote (s .args .at) (eventLine (s .args .place) (fieldsOf (eventSays e))) (s .args .out .now) (the-put-lmp .last .1 .1 .1 .1 .0) (the-put-lmp .result))
+    (sym (the-event4 .given .1)) (the-put-lmp .ensures)
 
 same-length-5 : tie.Need-same-length-5
 same-length-5 c = search needs
 
 returns-7 : tie.Need-returns-7
-returns-7 c = subst (λ (e : Event). Wrote (c .before .before .before .before .before .before .before .before .before .args .at) (eventLine (c .before .before .before .before .before .before .before .before .before .args .place) (fieldsOf (eventSays e))) (c .before .before .before .before .before .before .before .before .before .args .out .now) (c .before .before .put-numbered3 .last .1 .1 .1 .1 .0) (c .before .before .put-numbered3 .result)) (sym (c .before .before .before .before .before .before .event5 .given .1)) (c .before .before .put-numbered3 .ensures)
+returns-7 c =
+    let the-put-numbered3 = c .before .before .put-numbered3 in
+    let the-event5 = c .before .before .before .before .before .before .event5 in
+    let s = c .before .before .before .before .before .before .before .before .before in
+    subst
+    (λ (e : Event). Wrote (s .args .at) (eventLine (s .args .place) (fieldsOf (eventSays e))) (s .args .out .now) (the-put-numbered3 .last .1 .1 .1 .1 .0) (the-put-numbered3 .result))
+    (sym (the-event5 .given .1)) (the-put-numbered3 .ensures)
 
 returns-8 : tie.Need-returns-8
-returns-8 c = subst (λ (e : Event). Wrote (c .before .before .before .args .at) (eventLine (c .before .before .before .args .place) (fieldsOf (eventSays e))) (c .before .before .before .args .out .now) (c .before .before .before .args .out .now) (c .before .before .before .args .at)) (sym (c .enum-told3 .given .1)) (wrote-none (c .before .before .before .args .at) (c .before .before .before .args .out .now))
+returns-8 c =
+    let s = c .before .before .before in
+    subst
+    (λ (e : Event). Wrote (s .args .at) (eventLine (s .args .place) (fieldsOf (eventSays e))) (s .args .out .now) (s .args .out .now) (s .args .at))
+    (sym (c .enum-told3 .given .1)) (wrote-none (s .args .at) (s .args .out .now))
 
 pub put-event-spec : {M : Type 1} → statement M
 put-event-spec =

@@ -32,7 +32,14 @@ same-length : tie.Need-same-length
 same-length c = search needs
 
 returns : tie.Need-returns
-returns c = subst (λ (t : List ℕ). Wrote (c .before .before .before .before .before .before .before .before .before .args .at) t (c .before .before .before .before .before .before .before .before .before .args .out .now) (c .before .before .put .last .1 .1 .0) (c .before .before .put .result)) (decimal-part (c .before .before .before .before .before .before .before .before .before .args .n) (c .before .before .before .before .before .before .before .five-digits .result) (c .before .before .before .before .before .before .leading-zeros .result) (c .before .before .before .before .before .before .before .five-digits .ensures) (c .before .before .before .before .before .before .leading-zeros .ensures)) (c .before .before .put .ensures)
+returns c =
+    let the-put = c .before .before .put in
+    let the-leading-zeros = c .before .before .before .before .before .before .leading-zeros in
+    let the-five-digits = c .before .before .before .before .before .before .before .five-digits in
+    let s = c .before .before .before .before .before .before .before .before .before in
+    subst (λ (t : List ℕ). Wrote (s .args .at) t (s .args .out .now) (the-put .last .1 .1 .0) (the-put .result))
+    (decimal-part (s .args .n) (the-five-digits .result) (the-leading-zeros .result) (the-five-digits .ensures) (the-leading-zeros .ensures))
+    (the-put .ensures)
 
 pub put-number-spec : {M : Type 1} → statement M
 put-number-spec =
