@@ -10,15 +10,14 @@ use lib.IntN.{ℤ}
 use borrow.Author.Tests.{eq-eqb, ne-eqb, leb-true, leb-false}
 use Rattle.character_rules.specs.Disparity.{disparityOf}
 use Rattle.character_rules.specs.Results.{mark}
+use Rattle.character_rules.proofs.Packed.{mark-low, mark-is}
 use Rattle.character_rules.proofs.RunLaws.{Reached, at-start}
 
-pub number-is : (plus : Bool) (n : ℕ) → n ≡ mark plus → eqb n 1 ≡ plus
-number-is true n e = ap (λ (k : ℕ). eqb k 1) e
-number-is false n e = ap (λ (k : ℕ). eqb k 1) e
+number-is : (plus : Bool) (n : ℕ) → n ≡ mark plus → eqb n 1 ≡ plus
+number-is plus n e = ap (λ (k : ℕ). eqb k 1) e ∙ mark-is plus
 
 pub number-low : (plus : Bool) (n : ℕ) → n ≡ mark plus → n < 2
-number-low true n e = omega (arith, e)
-number-low false n e = omega (arith, e)
+number-low plus n e = omega (arith, e, mark-low plus)
 
 -- a packed result is below 4,096, and its part above 2,048 is that number
 pub top-is : (r : ℕ) → r < 4096 → leb 2048 r ≡ eqb (r / 2048) 1

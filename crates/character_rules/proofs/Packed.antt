@@ -20,11 +20,11 @@ use Rattle.character_rules.proofs.Disparities.{opposite, by-sign, closi
 use Rattle.character_rules.proofs.Laws.{reading-done}
 use Rattle.character_rules.proofs.Found.{found}
 
-mark-low : (b : Bool) → mark b ≤ 1
+pub mark-low : (b : Bool) → mark b ≤ 1
 mark-low true = omega arith
 mark-low false = omega arith
 
-mark-is : (b : Bool) → eqb (mark b) 1 ≡ b
+pub mark-is : (b : Bool) → eqb (mark b) 1 ≡ b
 mark-is true = refl
 mark-is false = refl
 

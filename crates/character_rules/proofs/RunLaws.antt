@@ -92,7 +92,7 @@ pub record Reached (cs : List ℕ) (d : ℤ) (old : List ℕ) (i : ℕ) (out : L
 pub at-start : (cs : List ℕ) (plus : Bool) (out : List ℕ) → Reached cs (disparityOf plus) out 0 out plus
 at-start cs plus out = record { place = omega arith; room = refl; results = refl; rest = refl; ends = refl }
 
-disparity-is : (plus : Bool) → T (isDisparity (disparityOf plus))
+pub disparity-is : (plus : Bool) → T (isDisparity (disparityOf plus))
 disparity-is true = tt
 disparity-is false = tt
 

@@ -3,8 +3,7 @@
 use mathlib.Core.Path.{_≡_, refl, sym, _∙_, ap}
 use mathlib.Core.Bool.{Bool, true, false}
 use mathlib.Core.List.{List, _++_}
-use Prim.Native.Nat.{ℕ, _≤_, _<_}
-use native.Mathlib.Omega.{arith}
+use Prim.Native.Nat.{ℕ, _≤_}
 use lib.Dec.{T, eqb}
 use lib.IntN.{ℤ}
 use lib.ListN.{length, drop}
@@ -14,16 +13,9 @@ use Rattle.character_rules.specs.Answers.{runWritten}
 use Rattle.character_rules.specs.Results.{mark}
 use Rattle.character_rules.specs.Writing.{runCharacters, runEnd, runWriting, runStored}
 use Rattle.character_rules.proofs.Disparities.{by-sign}
+use Rattle.character_rules.proofs.Packed.{mark-is}
 use Rattle.character_rules.proofs.WriteLaws.{end-disparity, write-done}
 use Rattle.disparity.proofs.Signed.{again, back}
-
-mark-is : (p : Bool) → eqb (mark p) 1 ≡ p
-mark-is true = refl
-mark-is false = refl
-
-pub mark-low : (p : Bool) (n : ℕ) → n ≡ mark p → n < 2
-mark-low true n e = omega (arith, e)
-mark-low false n e = omega (arith, e)
 
 module _
     (bs : List ℕ) (d : ℤ) (out new : List ℕ) (plus : Bool) (from : ℕ) (p : ℕ) (e : ℤ)

@@ -12,19 +12,8 @@ use Rattle.character_rules.specs.Blocks.{character, closing}
 use Rattle.character_rules.specs.Results.{mark}
 use Rattle.character_rules.proofs.Disparities.{by-sign, closing-disparity}
 use Rattle.character_rules.proofs.Found.{character-range}
+use Rattle.character_rules.proofs.Packed.{mark-low, mark-is}
 use Rattle.writer_table.specs.Entries.{form}
-
-mark-low : (p : Bool) → mark p ≤ 1
-mark-low true = omega arith
-mark-low false = omega arith
-
-mark-is : (p : Bool) → eqb (mark p) 1 ≡ p
-mark-is true = refl
-mark-is false = refl
-
-pub disparity-is : (plus : Bool) → T (isDisparity (disparityOf plus))
-disparity-is true = tt
-disparity-is false = tt
 
 module _ (b : ℕ) (d : ℤ) (h : b < 256) (t : T (isDisparity d)) where
   range : character (dataSymbol b) d < 1024

@@ -6,9 +6,10 @@ use native.Mathlib.Omega.{arith}
 use lib.Dec.{eqb}
 use lib.ListN.{length, getD}
 use Rattle.character_rules.specs.Disparity.{disparityOf}
+use Rattle.character_rules.proofs.RunLaws.{disparity-is}
 use Rattle.character_rules.proofs.WriteLaws.{Reached, at-start, one-more, at-end}
 use Rattle.writer_table.specs.Table.{table}
-use Rattle.writer_table.proofs.Forms.{disparity-is, form-character, form-low, form-closing}
+use Rattle.writer_table.proofs.Forms.{form-character, form-low, form-closing}
 use borrow.Author.Needs.{needs}
 use Rattle.run_writer.proofs.write_each.Statement.{statement}
 use Rattle.run_writer.proofs.write_each.Tie as tie

@@ -1,11 +1,13 @@
 -- Each way out by the tests that led there.
 -- Assumes nothing.
 use mathlib.Core.Path.{_∙_, ap}
+use native.Mathlib.Omega.{arith}
 use mir.Facts.{toZ-ofZ}
 use Rattle.character_rules.specs.Disparity.{isPlus}
+use Rattle.character_rules.proofs.Packed.{mark-low}
 use Rattle.character_rules.proofs.WriteLaws.{write-bad, write-short}
 use Rattle.disparity.proofs.Signed.{told-none, told-disparity}
-use Rattle.run_writer.proofs.Runs.{mark-low, run-is-written}
+use Rattle.run_writer.proofs.Runs.{run-is-written}
 use borrow.Author.Needs.{needs}
 use Rattle.run_writer.proofs.write_run.Statement.{statement}
 use Rattle.run_writer.proofs.write_run.Tie as tie
@@ -33,7 +35,7 @@ number-of-requires c κs = search needs
 
 write-each-requires : tie.Need-write-each-requires
 write-each-requires c κs =
-    let b1 = c .before in let b2 = b1 .before in (mark-low (b2 .is-plus .result) _ (b1 .number-of .ensures), b2 .before .if2 .left)
+    let b1 = c .before in let b2 = b1 .before in (omega (arith, b1 .number-of .ensures, mark-low (b2 .is-plus .result)), b2 .before .if2 .left)
 
 disparity-of-requires : tie.Need-disparity-of-requires
 disparity-of-requires c κs = search needs
