@@ -1,14 +1,17 @@
 -- What a public call comes to, from the number it is refused with or from what was written.
 -- Assumes nothing.
 use mathlib.Core.Path.{_≡_, ap, ap₂, sym, subst, _∙_}
+use mathlib.Core.Bool.{Bool}
 use mathlib.Core.List.{List, [], _∷_, _++_}
-use Prim.Native.Nat.{ℕ}
+use Prim.Native.Nat.{ℕ, _+_, _*_}
 use native.Mathlib.Nat.{zero-add}
 use lib.IntN.{ℤ}
 use lib.ListN.{length, drop}
 use Rattle.refusal.specs.Order.{refusalOf}
 use Rattle.refusal.proofs.Laws.{done, refused, hands-back}
-use Rattle.packet_rules.specs.Packets.{Packet, symbolsOf, charactersOf, closingOf, packetChecks, PacketWriting, wrote, notWrote, packetWriting, packetOutput}
+use Rattle.packet_rules.specs.Line.{SPP}
+use Rattle.packet_rules.specs.Packets.{Packet, inPriority, packetSymbols, symbolsOf, charactersOf, closingOf, packetChecks}
+use Rattle.packet_rules.specs.Packets.{PacketWriting, wrote, notWrote, packetWriting, packetOutput}
 use Rattle.packet_writer.specs.declared.Place.{Place}
 use Rattle.packet_writer.specs.Writing.{Wrote}
 
@@ -36,3 +39,13 @@ module _ (s : ℕ) (p : Packet) (d : ℤ) (old : List ℕ) where
             ∙ sym (done cs notWrote (wrote n (closingOf (symbolsOf p) d)) e),
         w .line ∙ ap (λ (m : ℕ). charactersOf (symbolsOf p) d ++ drop m old) (zero-add n) ∙ sym (done cs (λ m. old) ch e),
       )
+
+-- a priority packet by its opening byte
+pub priority-all : (s c g : ℕ) (bytes : List ℕ) (bad : Bool) (d : ℤ) (old : List ℕ) {new : List ℕ} {q : Place} (o : ℕ) → o ≡ 16 * g + c
+    → refusalOf (packetChecks s (inPriority c g bytes bad) d (length old)) ≡ 0
+    → Wrote (record { at = 0; disparity = d }) (packetSymbols SPP o bytes bad) old new q
+    → (wrote (q .at) (q .disparity) ≡ packetWriting s (inPriority c g bytes bad) d old) × (new ≡ packetOutput s (inPriority c g bytes bad) d old)
+unfolding symbolsOf
+priority-all s c g bytes bad d old {new} {q} o e f w =
+    written-all s (inPriority c g bytes bad) d old f
+    (subst (λ (x : ℕ). Wrote (record { at = 0; disparity = d }) (packetSymbols SPP x bytes bad) old new q) e w)

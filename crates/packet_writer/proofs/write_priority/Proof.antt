@@ -17,9 +17,9 @@ use Rattle.refusal.specs.Order.{refusalOf}
 use Rattle.symbol.specs.Symbols.{isTwelve}
 use Rattle.character_rules.specs.Disparity.{isDisparity}
 use Rattle.segment_size.specs.Sizes.{sizeAllowed}
-use Rattle.packet_rules.specs.Packets.{inData, inPriority, retry, symbolsOf, packetChecks, wrote}
+use Rattle.packet_rules.specs.Packets.{inPriority, packetChecks, wrote}
 use Rattle.packet_writer.specs.Writing.{Wrote}
-use Rattle.packet_writer.proofs.Outcome.{refused-with, written-all}
+use Rattle.packet_writer.proofs.Outcome.{refused-with, priority-all}
 use Rattle.packet_writer.proofs.write_priority.Statement.{statement}
 use Rattle.packet_writer.proofs.write_priority.Tie as tie
 
@@ -126,7 +126,6 @@ same-length : tie.Need-same-length
 same-length c = search needs
 
 returns-8 : tie.Need-returns-8
-unfolding symbolsOf
 returns-8 c =
     let b = c .before .before .before .before .before .before .before .before .before .before .before .before .before .before .before .before in
     let a = b .args in
@@ -136,8 +135,10 @@ returns-8 c =
     let i : isDisparity d ≡ true = ap isDisparity (sym z) ∙ sym (c .before .before .before .before .before .before .before .before .before .before .before .before .before .is-disparity .ensures) ∙ not-false _ (c .before .before .before .before .before .before .before .before .before .before .before .before .if1 .left) in
     let h : (16 * a .segment + a .channel) % 256 ≡ 16 * a .segment + a .channel = omega arith in
     let no : refusalOf (packetChecks (a .size) m d (length (a .out .now))) ≡ 0 = simp (i, le-ltb 15 (a .channel) (c .before .before .before .before .before .before .before .before .before .before .before .if2 .left), le-ltb 15 (a .segment) (c .before .before .before .before .before .before .before .before .before .before .if3 .left), sym (c .before .before .before .before .before .before .before .before .before .size-is-allowed .ensures) ∙ not-false _ (c .before .before .before .before .before .before .before .before .if4 .left), le-ltb (a .size) (length (a .bytes .now)) (c .before .before .before .before .before .before .before .if5 .left), ne-eqb (length (a .bytes .now)) 0 (c .before .before .before .before .before .before .if6 .left), le-ltb (length (a .out .now)) (length (a .bytes .now) + 6) (c .before .before .before .before .before .if7 .left)) in
-    let w = written-all (a .size) m d (a .out .now) no (rw (h, z) at (c .before .before .before .put-packet .ensures)) in
-    (ap (wrote (c .before .before .before .put-packet .result .at)) (toZ-ofZ w32 (c .before .before .before .put-packet .result .disparity) (search needs)) ∙ w .0, w .1)
+    let put = c .before .before .before .put-packet in
+    let w = priority-all (a .size) (a .channel) (a .segment) (a .bytes .now) (a .bad) d (a .out .now) ((16 * a .segment + a .channel) % 256) h no
+    (rw z at (put .ensures)) in
+    (ap (wrote (put .result .at)) (toZ-ofZ w32 (put .result .disparity) (search needs)) ∙ w .0, w .1)
 
 pub write-priority-spec : {M : Type 1} → statement M
 write-priority-spec = tie.close (tie.spec is-disparity-requires returns returns-2 returns-3 size-is-allowed-requires returns-4 returns-5 returns-6 add-if7 returns-7 mul-opening add-opening cast-opening put-packet-requires same-length returns-8)
