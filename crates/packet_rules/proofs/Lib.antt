@@ -15,3 +15,7 @@ pub mod Trip
 pub mod Sequences
 pub mod Wrong
 pub mod OnTheLine
+pub mod Rest
+pub mod Quiet
+pub mod Only
+pub mod Exactly

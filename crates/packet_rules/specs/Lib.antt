@@ -8,3 +8,4 @@ pub mod History
 pub mod Packets
 pub mod RoundTrip
 pub mod OnTheLine
+pub mod Accepts
