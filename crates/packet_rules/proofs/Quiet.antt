@@ -25,6 +25,7 @@ use Rattle.packet_rules.specs.Symbols.{controlKind, kindOf}
 use Rattle.packet_rules.specs.Violations.{conditions, tenConditions, violationOf}
 use Rattle.packet_rules.specs.Step.{closesOwn, move, broken, dropped, isDropping, judged, symbolIn, isResult, readOf, stepChecks, refusedStep, stepOf}
 use Rattle.packet_rules.specs.Line.{COM, IDL, SPP, SDP, SLP, endSymbol}
+use Rattle.packet_rules.proofs.Violated.{broken-said}
 use Rattle.packet_rules.proofs.Choice.{either, by-outcome}
 use Rattle.packet_rules.proofs.Lowest.{NoneOf, lowest-none}
 
@@ -73,17 +74,6 @@ pub record Placed (r : Reader) (k : Kind) (a : Answer) : Type 0 where
   pub fits : NoneOf (conditions r k)
   pub moved : a ≡ move (r .phase) k r
 
-broken-says : (n : ℕ) (r : Reader) → broken n r .said .violation ≡ some n
-unfolding broken
-broken-says n r = either Says (eqb n 7) _ _ (λ e. refl) (λ e. either Says (eqb n 6) _ _ (λ f. own (r .priority)) (λ f. refl))
-  where
-    Says : Answer → Type 0
-    Says a = a .said .violation ≡ some n
-
-    own : (p : PriorityPacket) → closesOwn (violated n) p r .said .violation ≡ some n
-    own NoPriority = refl
-    own (InPriority o c x) = refl
-
 -- a state that breaks its rule is refused, whatever else is wrong
 refuses : (w a b : Bool) (f : ℕ → Answer) (x : Answer) → w ≡ false → outcome (check 1 (not w) ∷ check 1 a ∷ check 1 b ∷ []) f x ≡ f 1
 refuses true a b f x h = absurd (false-is-not-true (sym h))
@@ -121,4 +111,4 @@ quiet r x e awake = by-test (wellFormed r) kept unkept
           fits = lowest-none 0 (tenConditions r g k) (eqb-true (violationOf r g k) 0 q) .1 .1;
           moved = refl;
         })
-        (λ q n v. absurd (Option·none-ne-some (violationOf r g k) (sym v ∙ broken-says (violationOf r g k) r)))))
+        (λ q n v. absurd (Option·none-ne-some (violationOf r g k) (sym v ∙ broken-said (violationOf r g k) r)))))

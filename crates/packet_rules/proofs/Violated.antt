@@ -112,7 +112,7 @@ move-silent (Next d) k r = due-silent d (byteOf k) r
 move-silent (Idles n) k r = refl
 move-silent Dropping k r = refl
 
-broken-said : (n : ℕ) (r : Reader) → broken n r .said .violation ≡ some n
+pub broken-said : (n : ℕ) (r : Reader) → broken n r .said .violation ≡ some n
 unfolding broken
 broken-said n r =
     either Says (eqb n 7) _ _ (λ e. refl) (λ e. either Says (eqb n 6) _ _ (λ f. own (r .priority)) (λ f. refl))
