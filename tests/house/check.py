@@ -10,8 +10,8 @@ import sys
 
 ROOT = pathlib.Path(__file__).resolve().parents[2]
 LINES, WIDE = 300, 200
-# One table, an entry a line as the formatter lays it out.
-LONG = {"crates/character_table/src/lib.rt", "crates/run_table/src/lib.rt", "crates/crc/src/table.rt"}
+# Each one table, an entry a line as the formatter lays it out.
+LONG = {"crates/character_table/src/lib.rt", "crates/run_table/src/lib.rt"}
 
 
 def texts():
