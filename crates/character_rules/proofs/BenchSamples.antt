@@ -3,13 +3,13 @@
 use mathlib.Core.Path.{refl}
 use Rattle.symbol.specs.Symbols.{isTwelve}
 use Rattle.character_rules.specs.Blocks.{sixBlocks, fourBlocks, controlFourBlocks, sixBlock, fourByList, fourBlock, firstBlock, between, secondBlock, character, closing}
-use Rattle.character_rules.specs.Writing.{writing, runWriting, runStored}
+use Rattle.character_rules.specs.Writing.{writing, runWriting, runStored, charactersOf, closingOf}
 use Rattle.character_rules.specs.Reading.{symbols, reading}
 use Rattle.character_rules.specs.Results.{packed, runReading, runOutput}
 use Rattle.character_rules.specs.Samples.{Samples}
 
 pub samples : Samples
-unfolding writing runWriting runStored reading symbols packed runReading runOutput isTwelve sixBlocks fourBlocks controlFourBlocks sixBlock fourByList fourBlock firstBlock between secondBlock character closing
+unfolding writing charactersOf closingOf runWriting runStored reading symbols packed runReading runOutput isTwelve sixBlocks fourBlocks controlFourBlocks sixBlock fourByList fourBlock firstBlock between secondBlock character closing
 samples =
     record {
       not-writable = refl;

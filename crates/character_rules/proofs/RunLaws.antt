@@ -16,9 +16,9 @@ use Rattle.refusal.specs.Order.{Check, check, outcome, left}
 use Rattle.laws.specs.Lists.{allOf}
 use Rattle.laws.proofs.Bools.{and-left, and-right}
 use Rattle.character_rules.specs.Disparity.{isPlus, isDisparity, disparityOf}
-use Rattle.character_rules.specs.Answers.{RunReading, runRead, notRunRead}
+use Rattle.character_rules.specs.Answers.{Reading, RunReading, runRead, notRunRead}
 use Rattle.character_rules.specs.Reading.{reading}
-use Rattle.character_rules.specs.Results.{packed, afterOne, inRange, runResults, runClosing, runReading, runOutput}
+use Rattle.character_rules.specs.Results.{packed, afterOne, inRange, runResults, runClosing, runReading, runOutput, readingsOf}
 use Rattle.character_rules.proofs.Disparities.{by-sign}
 use Rattle.character_rules.proofs.Packed.{after-disparity, after-plus}
 
@@ -80,6 +80,40 @@ closing-run (c ∷ cs) d a t =
     let h = ltb→lt c 1024 (and-left (inRange c) (allOf inRange cs) a) in
     closing-run cs (afterOne c d) (and-right (inRange c) (allOf inRange cs) a) (after-disparity c d (omega arith) t)
 
+pub disparity-is : (plus : Bool) → T (isDisparity (disparityOf plus))
+disparity-is true = tt
+disparity-is false = tt
+
+-- the disparity that the next character is read at, from a packed result
+pub next-read : (c : ℕ) (plus : Bool) (n : ℕ) → c < 1024 → n ≡ packed (reading c (disparityOf plus)) → afterOne c (disparityOf plus) ≡ disparityOf (leb 2048 n)
+next-read c plus n h e =
+    let d = disparityOf plus in
+    sym (by-sign (afterOne c d) (after-disparity c d (omega arith) (disparity-is plus)))
+    ∙ ap disparityOf (sym (after-plus c d (omega arith) (disparity-is plus)) ∙ ap (λ (k : ℕ). leb 2048 k) (sym e))
+
+-- ---- two runs, one after the other
+
+pub readings-append : (cs ds : List ℕ) (d : ℤ) → readingsOf (cs ++ ds) d ≡ readingsOf cs d ++ readingsOf ds (runClosing cs d)
+readings-append [] ds d = refl
+readings-append (c ∷ cs) ds d = ap (λ (l : List Reading). reading c d ∷ l) (readings-append cs ds (afterOne c d))
+
+pub closing-append : (cs ds : List ℕ) (d : ℤ) → runClosing (cs ++ ds) d ≡ runClosing ds (runClosing cs d)
+closing-append [] ds d = refl
+closing-append (c ∷ cs) ds d = closing-append cs ds (afterOne c d)
+
+pub length-readings : (cs : List ℕ) (d : ℤ) → length (readingsOf cs d) ≡ length cs
+length-readings [] d = refl
+length-readings (c ∷ cs) d = ap suc (length-readings cs (afterOne c d))
+
+-- ---- a store at a place: what lies past it is as it stood
+
+pub past-store : (out old : List ℕ) (i r : ℕ) → i < length out → drop i out ≡ drop i old → drop (suc i) (set out i r) ≡ drop (suc i) old
+past-store out old i r h rest =
+    drop-set-lt (suc i) out i r (omega arith)
+    ∙ ap (λ (n : ℕ). drop n out) (sym (add-one i))
+    ∙ sym (drop-drop 1 i out) ∙ ap (drop 1) rest ∙ drop-drop 1 i old
+    ∙ ap (λ (n : ℕ). drop n old) (add-one i)
+
 -- ---- the results, one at a time: what is done, and what remains
 
 pub record Reached (cs : List ℕ) (d : ℤ) (old : List ℕ) (i : ℕ) (out : List ℕ) (plus : Bool) : Type 0 where
@@ -92,18 +126,9 @@ pub record Reached (cs : List ℕ) (d : ℤ) (old : List ℕ) (i : ℕ) (out : L
 pub at-start : (cs : List ℕ) (plus : Bool) (out : List ℕ) → Reached cs (disparityOf plus) out 0 out plus
 at-start cs plus out = record { place = omega arith; room = refl; results = refl; rest = refl; ends = refl }
 
-pub disparity-is : (plus : Bool) → T (isDisparity (disparityOf plus))
-disparity-is true = tt
-disparity-is false = tt
-
 module _ (cs : List ℕ) (d : ℤ) (old : List ℕ) (i : ℕ) (out : List ℕ) (plus : Bool) (r : ℕ) (reached : Reached cs d old i out plus) (h : i < length cs) (g : getD cs i 0 < 1024) (fits : length cs ≤ length old) (e : r ≡ packed (reading (getD cs i 0) (disparityOf plus))) where
-  -- the disparity that the next character is read at
   next : afterOne (getD cs i 0) (disparityOf plus) ≡ disparityOf (leb 2048 r)
-  next =
-      let n = getD cs i 0 in
-      let b = disparityOf plus in
-      sym (by-sign (afterOne n b) (after-disparity n b (omega arith) (disparity-is plus)))
-      ∙ ap disparityOf (sym (after-plus n b (omega arith) (disparity-is plus)) ∙ ap (λ (k : ℕ). leb 2048 k) (sym e))
+  next = next-read (getD cs i 0) plus r g e
 
   remain : runResults (drop i cs) (disparityOf plus) ≡ r ∷ runResults (drop (suc i) cs) (disparityOf (leb 2048 r))
   remain =
@@ -116,13 +141,6 @@ module _ (cs : List ℕ) (d : ℤ) (old : List ℕ) (i : ℕ) (out : List ℕ) (
       let ys = runResults (drop (suc i) cs) (disparityOf (leb 2048 r)) in
       sym (ap (λ (l : List ℕ). l ++ ys) (take-suc-set out i r (omega arith)) ∙ append-assoc (take i out) (r ∷ []) ys)
 
-  kept-rest : drop (suc i) (set out i r) ≡ drop (suc i) old
-  kept-rest =
-      drop-set-lt (suc i) out i r (omega arith)
-      ∙ ap (λ (n : ℕ). drop n out) (sym (add-one i))
-      ∙ sym (drop-drop 1 i out) ∙ ap (drop 1) (reached .rest) ∙ drop-drop 1 i old
-      ∙ ap (λ (n : ℕ). drop n old) (add-one i)
-
   -- one character more
   pub one-more : Reached cs d old (i + 1) (set out i r) (leb 2048 r)
   one-more =
@@ -130,7 +148,7 @@ module _ (cs : List ℕ) (d : ℤ) (old : List ℕ) (i : ℕ) (out : List ℕ) (
         place = h;
         room = length-set out i r ∙ reached .room;
         results = reached .results ∙ ap (λ (l : List ℕ). take i out ++ l) remain ∙ stored;
-        rest = kept-rest;
+        rest = let room = reached .room in past-store out old i r (omega arith) (reached .rest);
         ends = reached .ends ∙ ap (λ (l : List ℕ). runClosing l (disparityOf plus)) (drop-cons cs i 0 h) ∙ ap (runClosing (drop (suc i) cs)) next;
       }
 

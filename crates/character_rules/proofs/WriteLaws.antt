@@ -1,4 +1,4 @@
--- What writing a run of data bytes comes to, by its refusals; and the run taken a byte at a time.
+-- Symbols written one after another; what writing a run of data bytes comes to, by its refusals; and the run taken a byte at a time.
 -- Assumes nothing.
 use mathlib.Core.Path.{_≡_, refl, sym, _∙_, ap, ap₂, subst}
 use mathlib.Core.Bool.{Bool, true, false, not}
@@ -9,15 +9,40 @@ use native.Mathlib.Omega.{arith}
 use lib.Dec.{T, ltb}
 use lib.IntN.{ℤ}
 use lib.ListN.{length, take, drop, getD, set, length-set, take-append-drop}
-use lib.Seq.{drop-cons, drop-length, take-suc-set, drop-set-lt, drop-drop}
+use lib.Seq.{drop-cons, drop-length, take-suc-set}
 use borrow.Author.Tests.{lt-ltb, le-ltb}
 use Rattle.refusal.specs.Order.{Check, check, outcome, left}
 use Rattle.symbol.specs.Symbols.{dataSymbol}
+use Rattle.symbol.specs.declared.Symbol.{Symbol}
 use Rattle.character_rules.specs.Disparity.{isDisparity}
 use Rattle.character_rules.specs.Blocks.{character, closing}
 use Rattle.character_rules.specs.Answers.{RunWriting, runWritten, notRunWritten}
-use Rattle.character_rules.specs.Writing.{runCharacters, runEnd, runWriting, runStored}
+use Rattle.character_rules.specs.Writing.{charactersOf, closingOf, runCharacters, runEnd, runWriting, runStored}
 use Rattle.character_rules.proofs.Disparities.{closing-disparity}
+use Rattle.character_rules.proofs.RunLaws.{past-store}
+
+-- ---- symbols one after another
+
+-- written from a disparity they close at one
+pub closing-is : (ss : List Symbol) (d : ℤ) → T (isDisparity d) → T (isDisparity (closingOf ss d))
+unfolding closingOf
+closing-is [] d t = t
+closing-is (s ∷ ss) d t = closing-is ss (closing s d) (closing-disparity s d t)
+
+pub length-characters : (ss : List Symbol) (d : ℤ) → length (charactersOf ss d) ≡ length ss
+unfolding charactersOf
+length-characters [] d = refl
+length-characters (s ∷ ss) d = ap suc (length-characters ss (closing s d))
+
+pub characters-append : (xs ys : List Symbol) (d : ℤ) → charactersOf (xs ++ ys) d ≡ charactersOf xs d ++ charactersOf ys (closingOf xs d)
+unfolding charactersOf closingOf
+characters-append [] ys d = refl
+characters-append (x ∷ xs) ys d = ap (_∷_ (character x d)) (characters-append xs ys (closing x d))
+
+pub closes-append : (xs ys : List Symbol) (d : ℤ) → closingOf (xs ++ ys) d ≡ closingOf ys (closingOf xs d)
+unfolding closingOf
+closes-append [] ys d = refl
+closes-append (x ∷ xs) ys d = closes-append xs ys (closing x d)
 
 -- ---- the refusals
 
@@ -47,11 +72,6 @@ module _ (bs : List ℕ) (d : ℤ) (out : List ℕ) where
       → (runWritten (runEnd bs d) ≡ runWriting bs d (length out)) × (runCharacters bs d ++ drop (length bs) out ≡ runStored bs d out)
   write-done e h = by-tests e (le-ltb (length out) (length bs) h)
 
--- a run from a disparity ends at one
-pub end-disparity : (bs : List ℕ) (d : ℤ) → T (isDisparity d) → T (isDisparity (runEnd bs d))
-end-disparity [] d t = t
-end-disparity (b ∷ bs) d t = end-disparity bs (closing (dataSymbol b) d) (closing-disparity (dataSymbol b) d t)
-
 -- ---- the characters, one at a time: what is done, and what remains
 
 pub record Reached (bs : List ℕ) (d : ℤ) (old : List ℕ) (i : ℕ) (out : List ℕ) (z : ℤ) : Type 0 where
@@ -68,6 +88,7 @@ module _ (bs : List ℕ) (d : ℤ) (old : List ℕ) (i : ℕ) (out : List ℕ) (
     (reached : Reached bs d old i out z) (h : i < length bs) (fits : length bs ≤ length old)
     (hc : c ≡ character (dataSymbol (getD bs i 0)) z) (hy : y ≡ closing (dataSymbol (getD bs i 0)) z) where
   remain : runCharacters (drop i bs) z ≡ c ∷ runCharacters (drop (suc i) bs) y
+  unfolding charactersOf
   remain =
       ap (λ (l : List ℕ). runCharacters l z) (drop-cons bs i 0 h)
       ∙ ap₂ (λ (k : ℕ) (x : ℤ). k ∷ runCharacters (drop (suc i) bs) x) (sym hc) (sym hy)
@@ -78,27 +99,22 @@ module _ (bs : List ℕ) (d : ℤ) (old : List ℕ) (i : ℕ) (out : List ℕ) (
       let ys = runCharacters (drop (suc i) bs) y in
       sym (ap (λ (l : List ℕ). l ++ ys) (take-suc-set out i c (omega arith)) ∙ append-assoc (take i out) (c ∷ []) ys)
 
-  kept-rest : drop (suc i) (set out i c) ≡ drop (suc i) old
-  kept-rest =
-      drop-set-lt (suc i) out i c (omega arith)
-      ∙ ap (λ (n : ℕ). drop n out) (sym (add-one i))
-      ∙ sym (drop-drop 1 i out) ∙ ap (drop 1) (reached .rest) ∙ drop-drop 1 i old
-      ∙ ap (λ (n : ℕ). drop n old) (add-one i)
-
   -- one byte more
   pub one-more : Reached bs d old (i + 1) (set out i c) y
+  unfolding closingOf
   one-more =
       subst (λ (n : ℕ). Reached bs d old n (set out i c) y) (sym (add-one i)) record {
         place = h;
         room = length-set out i c ∙ reached .room;
         stored = reached .stored ∙ ap (λ (l : List ℕ). take i out ++ l) remain ∙ kept-characters;
-        rest = kept-rest;
+        rest = let room = reached .room in past-store out old i c (omega arith) (reached .rest);
         ends = reached .ends ∙ ap (λ (l : List ℕ). runEnd l z) (drop-cons bs i 0 h) ∙ ap (runEnd (drop (suc i) bs)) (sym hy);
       }
 
 -- the whole run
 pub at-end : (bs : List ℕ) (d : ℤ) (old : List ℕ) (i : ℕ) (out : List ℕ) (z : ℤ) → Reached bs d old i out z → i ≡ length bs
     → (z ≡ runEnd bs d) × (out ≡ runCharacters bs d ++ drop (length bs) old)
+unfolding charactersOf closingOf
 at-end bs d old i out z reached e =
     let none : drop i bs ≡ [] = ap (λ (k : ℕ). drop k bs) e ∙ drop-length bs in (
       sym (reached .ends ∙ ap (λ (l : List ℕ). runEnd l z) none),

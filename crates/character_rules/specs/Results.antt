@@ -1,7 +1,7 @@
 -- A run of characters, read one after the other into packed results.
 use Prim.Native.Nat.{ℕ, _+_, _*_, _/_, _%_}
 use mathlib.Core.Bool.{Bool, true, false, cond, not, _||_}
-use mathlib.Core.List.{List, [], _∷_, _++_}
+use mathlib.Core.List.{List, [], _∷_, _++_, map}
 use mathlib.Core.Option.{Option, none, some}
 use lib.Dec.{eqb, ltb, leb}
 use lib.IntN.{ℤ}
@@ -50,9 +50,12 @@ newDisparity d (some e) = e
 abbrev pub afterOne : ℕ → ℤ → ℤ
 afterOne c d = newDisparity d (reading c d .disparity)
 
+abbrev pub readingsOf : List ℕ → ℤ → List Reading
+readingsOf [] d = []
+readingsOf (c ∷ cs) d = reading c d ∷ readingsOf cs (afterOne c d)
+
 abbrev pub runResults : List ℕ → ℤ → List ℕ
-runResults [] d = []
-runResults (c ∷ cs) d = packed (reading c d) ∷ runResults cs (afterOne c d)
+runResults cs d = map packed (readingsOf cs d)
 
 abbrev pub runClosing : List ℕ → ℤ → ℤ
 runClosing [] d = d

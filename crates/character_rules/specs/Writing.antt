@@ -1,7 +1,7 @@
 -- What writing a symbol comes to: refusal 1 for a number that is no disparity, 3 for a control byte that is not writable.
 use Prim.Native.Nat.{ℕ}
 use mathlib.Core.Bool.{not}
-use mathlib.Core.List.{List, [], _∷_, _++_}
+use mathlib.Core.List.{List, [], _∷_, _++_, map}
 use lib.Dec.{ltb}
 use lib.IntN.{ℤ}
 use lib.ListN.{length, drop}
@@ -17,15 +17,23 @@ writing s d =
     outcome (check 1 (not (isDisparity d)) ∷ check 3 (not (isWritable s)) ∷ []) notWritten
     (written (character s d) (closing s d))
 
--- ---- a run of data bytes, each written at the disparity that the one before it closed at
+-- ---- symbols, each written at the disparity that the one before it closed at
+
+unfoldable pub charactersOf : List Symbol → ℤ → List ℕ
+charactersOf [] d = []
+charactersOf (s ∷ ss) d = character s d ∷ charactersOf ss (closing s d)
+
+unfoldable pub closingOf : List Symbol → ℤ → ℤ
+closingOf [] d = d
+closingOf (s ∷ ss) d = closingOf ss (closing s d)
+
+-- ---- a run of data bytes
 
 abbrev pub runCharacters : List ℕ → ℤ → List ℕ
-runCharacters [] d = []
-runCharacters (b ∷ bs) d = character (dataSymbol b) d ∷ runCharacters bs (closing (dataSymbol b) d)
+runCharacters bs d = charactersOf (map dataSymbol bs) d
 
 abbrev pub runEnd : List ℕ → ℤ → ℤ
-runEnd [] d = d
-runEnd (b ∷ bs) d = runEnd bs (closing (dataSymbol b) d)
+runEnd bs d = closingOf (map dataSymbol bs) d
 
 -- refusal 1: no disparity; 6: the output is shorter than the run
 abbrev pub writeChecks : List ℕ → ℤ → ℕ → List Check

@@ -15,6 +15,7 @@ use Rattle.character_rules.specs.Answers.{Reading, clean}
 use Rattle.character_rules.specs.Reading.{reading}
 use Rattle.character_rules.specs.Results.{packed, packedDisparity, unpacked}
 use Rattle.character_rules.proofs.Packed.{unpacked-data, unpacked-reading}
+use Rattle.character_rules.proofs.RunLaws.{disparity-is}
 use Rattle.crc.specs.Crc16.{crcByte}
 use Rattle.packet_rules.specs.declared.DataPacket.{DataPacket}
 use Rattle.packet_rules.specs.declared.DataPacket.the-variants.{InData}
@@ -27,7 +28,7 @@ use Rattle.packet_rules.specs.Step.{stepOf}
 use Rattle.packet_rules.proofs.Runs.{gives}
 use Rattle.packet_rules.proofs.Steps.{st, on-byte}
 use Rattle.events_rules.specs.Numbers.{packedEvent}
-use Rattle.events_rules.proofs.Runs.{Ran, disparity-is, ran-none, ran-then, ran-one}
+use Rattle.events_rules.proofs.Runs.{Ran, ran-none, ran-then, ran-one}
 
 -- ---- states that take bytes, by how many came and by the register
 

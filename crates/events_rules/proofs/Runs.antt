@@ -12,34 +12,33 @@ use lib.ListN.{length, take, drop, getD, set, length-set, take-append-drop}
 use lib.Seq.{drop-cons, drop-length, take-suc-set, drop-set-lt}
 use Rattle.character_rules.specs.Disparity.{isDisparity, disparityOf}
 use Rattle.character_rules.specs.Reading.{reading}
-use Rattle.character_rules.specs.Results.{packed, afterOne, runClosing}
-use Rattle.character_rules.proofs.Disparities.{by-sign}
-use Rattle.character_rules.proofs.Packed.{after-disparity, after-plus}
+use Rattle.character_rules.specs.Results.{packed, afterOne, runClosing, readingsOf}
+use Rattle.character_rules.proofs.RunLaws.{next-read}
 use Rattle.packet_rules.specs.declared.Reader.{Reader}
 use Rattle.packet_rules.specs.State.{wellFormed}
 use Rattle.packet_rules.specs.Step.{stepOf}
 use Rattle.packet_rules.specs.Line.{saidOf, afterOf}
 use Rattle.packet_rules.proofs.Kept.{kept}
 use Rattle.events_rules.specs.Numbers.{packedEvent}
-use Rattle.events_rules.specs.Events.{readingsOf, eventsOf, readerAfter}
+use Rattle.events_rules.specs.Events.{eventsOf, readerAfter}
 
 -- ---- one by one: the first character is read and given to the reader, and the others are read from where that left off
 
 module _ (c : ℕ) (cs : List ℕ) (d : ℤ) (r : Reader) where
   pub events-one : eventsOf (c ∷ cs) d r ≡ packedEvent (stepOf r (reading c d) .said) ∷ eventsOf cs (afterOne c d) (stepOf r (reading c d) .reader)
-  unfolding eventsOf readingsOf saidOf
+  unfolding eventsOf saidOf
   events-one = refl
 
   pub reader-one : readerAfter (c ∷ cs) d r ≡ readerAfter cs (afterOne c d) (stepOf r (reading c d) .reader)
-  unfolding readerAfter readingsOf afterOf
+  unfolding readerAfter afterOf
   reader-one = refl
 
 pub events-none : (d : ℤ) (r : Reader) → eventsOf [] d r ≡ []
-unfolding eventsOf readingsOf saidOf
+unfolding eventsOf saidOf
 events-none d r = refl
 
 pub reader-none : (d : ℤ) (r : Reader) → readerAfter [] d r ≡ r
-unfolding readerAfter readingsOf afterOf
+unfolding readerAfter afterOf
 reader-none d r = refl
 
 -- the reader after them keeps its rule if it did before
@@ -47,10 +46,6 @@ pub reader-kept : (cs : List ℕ) (d : ℤ) (r : Reader) → wellFormed r ≡ tr
 reader-kept [] d r h = ap wellFormed (reader-none d r) ∙ h
 reader-kept (c ∷ cs) d r h =
     ap wellFormed (reader-one c cs d r) ∙ reader-kept cs (afterOne c d) (stepOf r (reading c d) .reader) (kept r (reading c d) h)
-
-pub disparity-is : (plus : Bool) → T (isDisparity (disparityOf plus))
-disparity-is true = tt
-disparity-is false = tt
 
 -- ---- a part of the characters
 
@@ -96,11 +91,7 @@ module _ (cs : List ℕ) where
       (state : s ≡ stepOf r (reading (getD cs i 0) (disparityOf p)) .reader) where
     -- the disparity that the next character is read at
     next : afterOne (getD cs i 0) (disparityOf p) ≡ disparityOf (leb 2048 n)
-    next =
-        let c = getD cs i 0 in
-        let b = disparityOf p in
-        sym (by-sign (afterOne c b) (after-disparity c b (omega arith) (disparity-is p)))
-        ∙ ap disparityOf (sym (after-plus c b (omega arith) (disparity-is p)) ∙ ap (λ (k : ℕ). leb 2048 k) (sym result))
+    next = next-read (getD cs i 0) p n g result
 
     remain : eventsOf (drop i cs) (disparityOf p) r ≡ e ∷ eventsOf (drop (suc i) cs) (disparityOf (leb 2048 n)) s
     remain =

@@ -7,9 +7,7 @@ use lib.IntN.{ℤ}
 use lib.ListN.{length, drop}
 use Rattle.refusal.specs.Order.{Check, check, outcome, left}
 use Rattle.character_rules.specs.Disparity.{isDisparity}
-use Rattle.character_rules.specs.Answers.{Reading}
-use Rattle.character_rules.specs.Reading.{reading}
-use Rattle.character_rules.specs.Results.{afterOne, runClosing}
+use Rattle.character_rules.specs.Results.{readingsOf, runClosing}
 use Rattle.capture_rules.specs.Capture.{characterCount, charactersOf}
 use Rattle.capture_rules.specs.Calls.{readable}
 use Rattle.packet_rules.specs.declared.Reader.{Reader}
@@ -18,12 +16,7 @@ use Rattle.packet_rules.specs.Line.{saidOf, afterOf}
 use Rattle.events_rules.specs.declared.CaptureRead.{CaptureRead}
 use Rattle.events_rules.specs.Numbers.{packedEvent}
 
--- characters, each read at the disparity that the one before it gave
-unfoldable pub readingsOf : List ℕ → ℤ → List Reading
-readingsOf [] d = []
-readingsOf (c ∷ cs) d = reading c d ∷ readingsOf cs (afterOne c d)
-
--- what a reader says of them, an event a character, and its state after them
+-- what a reader says of characters, an event for each, and its state after them
 unfoldable pub eventsOf : List ℕ → ℤ → Reader → List ℕ
 eventsOf cs d r = map packedEvent (saidOf r (readingsOf cs d))
 

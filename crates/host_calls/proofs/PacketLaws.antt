@@ -5,10 +5,11 @@ use mathlib.Core.Path.{_≡_, refl, sym, ap, _∙_}
 use mathlib.Core.List.{List}
 use lib.IntN.{ℤ}
 use lib.ListN.{length}
+use Rattle.character_rules.specs.Writing.{closingOf}
 use Rattle.packet_rules.specs.declared.Reader.{Reader}
 use Rattle.packet_rules.specs.Answers.{Answer, made, notMade}
 use Rattle.packet_rules.specs.State.{freshReader}
-use Rattle.packet_rules.specs.Packets.{Packet, PacketWriting, wrote, notWrote, symbolsOf, closingOf, packetChecks, packetWriting, packetOutput}
+use Rattle.packet_rules.specs.Packets.{Packet, PacketWriting, wrote, notWrote, symbolsOf, packetChecks, packetWriting, packetOutput}
 use Rattle.host_rules.specs.declared.Told.{Told}
 use Rattle.host_rules.specs.Numbers.{Called, called}
 use Rattle.host_rules.specs.ReaderBytes.{readerBytes}

@@ -18,7 +18,7 @@ use Rattle.character_rules.specs.Disparity.{isDisparity}
 use Rattle.character_rules.specs.declared.RunRead.{RunRead}
 use Rattle.character_rules.specs.declared.RunRead.the-variants.{Read, Refused as NotRun}
 use Rattle.character_rules.specs.Answers.{Reading, RunReading, runRead, runSays}
-use Rattle.character_rules.specs.Results.{packed, unpacked, afterOne, inRange, runResults, runClosing, runReading, runOutput}
+use Rattle.character_rules.specs.Results.{packed, unpacked, afterOne, inRange, runResults, runClosing, runReading, runOutput, readingsOf}
 use Rattle.character_rules.proofs.Packed.{unpacked-reading, after-disparity}
 use Rattle.character_rules.proofs.RunLaws.{run-done}
 use Rattle.capture_rules.specs.Capture.{characterCount, charactersOf, legal}
@@ -26,7 +26,6 @@ use Rattle.capture_rules.proofs.Packing.{characters-length}
 use Rattle.packet_rules.specs.Line.{saidOf, afterOf}
 use Rattle.listing_rules.specs.declared.Reached.{Reached}
 use Rattle.listing_rules.specs.declared.Listing.the-variants.{Going, Ended}
-use Rattle.events_rules.specs.Events.{readingsOf}
 use Rattle.listing_rules.specs.Lines.{linesFrom, eventsIn, endLine}
 use Rattle.listing_rules.specs.Pieces.{wrote, keepsRule, nextCharacters, saidOfRun, afterRun, isGoing, pieceOf, listingAfter, doneSays}
 use Rattle.listing_rules.proofs.Whole.{rule-disparity, nexts-range}
@@ -57,7 +56,6 @@ taken-low (suc n) (x ∷ xs) (suc k) h = let g = taken-low n xs k (omega arith) 
 -- ---- packed results, taken apart, are the readings
 
 unpacked-run : (cs : List ℕ) (d : ℤ) → T (allOf inRange cs) → T (isDisparity d) → map unpacked (runResults cs d) ≡ readingsOf cs d
-unfolding readingsOf
 unpacked-run [] d a t = refl
 unpacked-run (c ∷ cs) d a t =
     let h = ltb→lt c 1024 (and-left (inRange c) (allOf inRange cs) a) in

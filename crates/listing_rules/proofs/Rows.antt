@@ -10,7 +10,7 @@ use lib.IntN.{negsuc}
 use lib.ListN.{replicate}
 use Rattle.symbol.specs.Symbols.{isTwelve}
 use Rattle.character_rules.specs.Answers.{Reading, clean}
-use Rattle.character_rules.specs.Results.{newDisparity}
+use Rattle.character_rules.specs.Results.{newDisparity, readingsOf}
 use Rattle.character_rules.specs.Bench.{D, K}
 use Rattle.character_rules.proofs.BenchSamples.{samples}
 use Rattle.crc.specs.Crc16.{crcStart}
@@ -23,12 +23,11 @@ use Rattle.packet_rules.specs.Violations.{violationOf}
 use Rattle.packet_rules.specs.Step.{broken, dropped, readOf, stepOf}
 use Rattle.packet_rules.specs.Line.{saidOf}
 use Rattle.listing_rules.specs.Text.{decimal}
-use Rattle.events_rules.specs.Events.{readingsOf}
 use Rattle.listing_rules.specs.Lines.{fieldsOf, eventLine, listed, linesFrom, eventsIn, header, endLine, listingOf}
 
 -- its two characters: IDL, then D21.5
 example-read : readingsOf (charactersOf (0x3D ∷ 0x2A ∷ 0xA0 ∷ [])) (negsuc 0) ≡ clean (K 28 0) (negsuc 0) ∷ clean (D 21 5) (negsuc 0) ∷ []
-unfolding readingsOf charactersOf
+unfolding charactersOf
 example-read =
     ap (λ (r : Reading). r ∷ readingsOf (0b1010101010 ∷ []) (newDisparity (negsuc 0) (r .disparity))) (samples .idle)
     ∙ ap (λ (r : Reading). clean (K 28 0) (negsuc 0) ∷ r ∷ []) (samples .d21-5)
@@ -41,7 +40,7 @@ document-example =
 
 -- place event detail; end 0 0
 pub empty-capture : listingOf [] ≡ 112 ∷ 108 ∷ 97 ∷ 99 ∷ 101 ∷ 32 ∷ 101 ∷ 118 ∷ 101 ∷ 110 ∷ 116 ∷ 32 ∷ 100 ∷ 101 ∷ 116 ∷ 97 ∷ 105 ∷ 108 ∷ 10 ∷ 101 ∷ 110 ∷ 100 ∷ 32 ∷ 48 ∷ 32 ∷ 48 ∷ 10 ∷ []
-unfolding listingOf legal closingBits charactersOf saidOf readingsOf linesFrom eventsIn decimal
+unfolding listingOf legal closingBits charactersOf saidOf linesFrom eventsIn decimal
 empty-capture = refl
 
 -- refused 8: a length with remainder 1 by 5, and a closing bit

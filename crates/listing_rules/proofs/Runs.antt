@@ -1,26 +1,17 @@
--- A run of characters in two parts: its readings, what the reader says, the lines and the events.
+-- A run of readings in two parts: what the reader says, the lines and the events.
 -- Assumes nothing.
 use mathlib.Core.Path.{_≡_, refl, sym, ap, _∙_}
 use mathlib.Core.List.{List, [], _∷_, _++_, append-assoc}
 use Prim.Native.Nat.{ℕ, suc, _+_, _≤_}
 use native.Mathlib.Nat.{add-assoc, add-zero}
 use native.Mathlib.Omega.{arith}
-use lib.IntN.{ℤ}
 use lib.ListN.{length}
 use Rattle.character_rules.specs.Answers.{Reading}
-use Rattle.character_rules.specs.Reading.{reading}
-use Rattle.character_rules.specs.Results.{afterOne, runClosing}
 use Rattle.packet_rules.specs.declared.Reader.{Reader}
 use Rattle.packet_rules.specs.Answers.{Said}
 use Rattle.packet_rules.specs.Step.{stepOf}
 use Rattle.packet_rules.specs.Line.{saidOf, afterOf}
-use Rattle.events_rules.specs.Events.{readingsOf}
 use Rattle.listing_rules.specs.Lines.{fieldsOf, eventLine, listed, linesFrom, eventsIn}
-
-pub readings-append : (cs ds : List ℕ) (d : ℤ) → readingsOf (cs ++ ds) d ≡ readingsOf cs d ++ readingsOf ds (runClosing cs d)
-unfolding readingsOf
-readings-append [] ds d = refl
-readings-append (c ∷ cs) ds d = ap (λ (l : List Reading). reading c d ∷ l) (readings-append cs ds (afterOne c d))
 
 pub said-append : (r : Reader) (gs hs : List Reading) → saidOf r (gs ++ hs) ≡ saidOf r gs ++ saidOf (afterOf r gs) hs
 unfolding saidOf afterOf
@@ -44,11 +35,6 @@ pub events-append : (es fs : List Said) → eventsIn (es ++ fs) ≡ eventsIn es 
 unfolding eventsIn
 events-append [] fs = omega arith
 events-append (e ∷ es) fs = ap (λ (n : ℕ). listed (fieldsOf e) + n) (events-append es fs) ∙ sym (add-assoc (listed (fieldsOf e)) (eventsIn es) (eventsIn fs))
-
-pub length-readings : (cs : List ℕ) (d : ℤ) → length (readingsOf cs d) ≡ length cs
-unfolding readingsOf
-length-readings [] d = refl
-length-readings (c ∷ cs) d = ap suc (length-readings cs (afterOne c d))
 
 pub length-said : (r : Reader) (gs : List Reading) → length (saidOf r gs) ≡ length gs
 unfolding saidOf

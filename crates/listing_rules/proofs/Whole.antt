@@ -16,8 +16,8 @@ use Rattle.laws.proofs.Cases.{by-test, both-true, first-true, second-true}
 use Rattle.laws.proofs.Groups.{all-take, all-drop}
 use Rattle.refusal.specs.Order.{refusalOf}
 use Rattle.character_rules.specs.Disparity.{isDisparity}
-use Rattle.character_rules.specs.Results.{runClosing, inRange}
-use Rattle.character_rules.proofs.RunLaws.{closing-run}
+use Rattle.character_rules.specs.Results.{runClosing, inRange, readingsOf}
+use Rattle.character_rules.proofs.RunLaws.{closing-run, readings-append, length-readings}
 use Rattle.capture_rules.specs.Capture.{characterCount, charactersOf, legal}
 use Rattle.capture_rules.proofs.Packing.{characters-length, characters-below}
 use Rattle.packet_rules.specs.declared.Reader.{Reader}
@@ -31,11 +31,10 @@ use Rattle.character_rules.specs.Answers.{Reading}
 use Rattle.listing_rules.specs.declared.Reached.{Reached}
 use Rattle.listing_rules.specs.declared.Listing.{Listing}
 use Rattle.listing_rules.specs.declared.Listing.the-variants.{Fresh, Going, Ended}
-use Rattle.events_rules.specs.Events.{readingsOf}
 use Rattle.listing_rules.specs.Lines.{linesFrom, eventsIn, header, endLine, refusedLine, saidOfCapture, listingOf}
 use Rattle.listing_rules.specs.Pieces.{wrote, keepsRule, start, nextCharacters, saidOfRun, afterRun, isGoing, pieceOf, listingAfter, nextChecks, doneSays, nextSays, nextLeaves}
 use Rattle.listing_rules.specs.Demand.{Lister, HandsOut, all, piece, Lists}
-use Rattle.listing_rules.proofs.Runs.{readings-append, said-append, lines-append, events-append, length-readings, length-said, events-few}
+use Rattle.listing_rules.proofs.Runs.{said-append, lines-append, events-append, length-said, events-few}
 
 -- ---- the rule is kept
 
@@ -103,7 +102,7 @@ module _ (cs ds : List ℕ) (p : Reached) where
       ∙ append-assoc (linesFrom (p .place) es) (linesFrom (p .place + length cs) fs) (endLine (p .place + length cs + length ds) (p .events + eventsIn es + eventsIn fs))
 
 rest-end : (p : Reached) → restOf [] p ≡ endLine (p .place) (p .events)
-unfolding linesFrom eventsIn saidOf readingsOf
+unfolding linesFrom eventsIn saidOf
 rest-end p = ap₂ endLine (add-zero (p .place)) (add-zero (p .events))
 
 -- ---- our lister

@@ -5,11 +5,11 @@ use mathlib.Core.List.{List, [], _∷_, _++_}
 use mathlib.Core.Option.{Option, none, some}
 use lib.IntN.{negsuc}
 use lib.ListN.{length}
+use Rattle.character_rules.specs.Results.{readingsOf}
 use Rattle.capture_rules.specs.Capture.{charactersOf, legal}
 use Rattle.packet_rules.specs.Answers.{Said, Start, Reply}
 use Rattle.packet_rules.specs.State.{fresh}
 use Rattle.packet_rules.specs.Line.{saidOf}
-use Rattle.events_rules.specs.Events.{readingsOf}
 use Rattle.listing_rules.specs.Text.{decimal, line, placeWord, eventWord, detailWord, violationWord, startWord, endWord, lmpWord}
 use Rattle.listing_rules.specs.Text.{dataWord, priorityWord, goodWord, badWord, ackWord, nackWord, refusedWord}
 

@@ -9,7 +9,7 @@ use lib.IntN.{negsuc}
 use lib.ListN.{length, take, drop}
 use Rattle.refusal.specs.Order.{Check, check, outcome, left}
 use Rattle.character_rules.specs.Disparity.{isDisparity}
-use Rattle.character_rules.specs.Results.{runClosing}
+use Rattle.character_rules.specs.Results.{runClosing, readingsOf}
 use Rattle.capture_rules.specs.Capture.{characterCount, charactersOf, legal}
 use Rattle.capture_rules.specs.Calls.{readable}
 use Rattle.packet_rules.specs.Answers.{Said as EventSaid}
@@ -21,7 +21,6 @@ use Rattle.listing_rules.specs.declared.Listing.the-variants.{Fresh, Goi
 use Rattle.listing_rules.specs.declared.Piece.{Piece}
 use Rattle.listing_rules.specs.declared.Piece.the-variants.{Written, Nothing, Refused}
 use Rattle.listing_rules.specs.declared.Next.{Next}
-use Rattle.events_rules.specs.Events.{readingsOf}
 use Rattle.listing_rules.specs.Lines.{linesFrom, eventsIn, header, endLine, refusedLine}
 
 -- ---- what an answer says: the refusal's number, if it was refused; how many bytes were written, where a piece was; the listing after it

@@ -14,15 +14,16 @@ use Rattle.laws.proofs.Bools.{and-left, and-right}
 use Rattle.symbol.specs.declared.Symbol.{Symbol}
 use Rattle.character_rules.specs.Disparity.{isDisparity}
 use Rattle.character_rules.specs.Blocks.{character, closing}
-use Rattle.character_rules.specs.Writing.{writing}
+use Rattle.character_rules.specs.Writing.{writing, charactersOf, closingOf}
 use Rattle.character_rules.specs.Line.{line, balance, withinThree}
 use Rattle.character_rules.specs.Demand.{canWrite}
 use Rattle.character_rules.proofs.LineBalance.{line-of, balanced-line}
+use Rattle.character_rules.proofs.WriteLaws.{closing-is, characters-append}
 use Rattle.segment_size.specs.Sizes.{sizeAllowed}
-use Rattle.packet_rules.specs.Packets.{Packet, symbolsOf, charactersOf, closingOf, PacketWriting}
+use Rattle.packet_rules.specs.Packets.{Packet, symbolsOf, PacketWriting}
 use Rattle.packet_rules.specs.RoundTrip.{Sequence, last, first}
 use Rattle.packet_rules.specs.OnTheLine.{bitsOnLine, PacketsBalanced}
-use Rattle.packet_rules.proofs.Read.{closing-is, all-append}
+use Rattle.packet_rules.proofs.Read.{all-append}
 use Rattle.packet_rules.proofs.Packets.{can}
 use Rattle.packet_rules.proofs.Trip.{theWriter, leaves-all, answers-closing}
 
@@ -34,11 +35,6 @@ bits-line (s ∷ ss) d a t =
     let h = and-left (canWrite s) (allOf canWrite ss) a in
     ap (λ (l : List ℕ). bits 10 (character s d) ++ l) (bits-line ss (closing s d) (and-right (canWrite s) (allOf canWrite ss) a) (closing-is (s ∷ []) d t))
     ∙ sym (line-of s ss d h t)
-
-characters-append : (xs ys : List Symbol) (d : ℤ) → charactersOf (xs ++ ys) d ≡ charactersOf xs d ++ charactersOf ys (closingOf xs d)
-unfolding charactersOf closingOf
-characters-append [] ys d = refl
-characters-append (x ∷ xs) ys d = ap (λ (l : List ℕ). character x d ∷ l) (characters-append xs ys (closing x d))
 
 -- a sequence's characters are those of one list of symbols, all of which can be written
 pub record Written (d : ℤ) (cs : List ℕ) : Type 0 where

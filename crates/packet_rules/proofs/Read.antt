@@ -13,13 +13,13 @@ use Rattle.symbol.specs.declared.Symbol.{Symbol}
 use Rattle.character_rules.specs.Disparity.{isDisparity}
 use Rattle.character_rules.specs.Blocks.{character, closing}
 use Rattle.character_rules.specs.Answers.{Reading, clean}
-use Rattle.character_rules.specs.Results.{newDisparity}
+use Rattle.character_rules.specs.Results.{newDisparity, readingsOf, runClosing}
 use Rattle.character_rules.specs.Demand.{canWrite}
 use Rattle.character_rules.proofs.Disparities.{closing-disparity}
 use Rattle.character_rules.proofs.Trip.{reads-back, can-byte, can-symbol}
+use Rattle.character_rules.specs.Writing.{charactersOf, closingOf}
 use Rattle.packet_rules.specs.Line.{ReadClean, nil, next}
-use Rattle.packet_rules.specs.Packets.{charactersOf, closingOf}
-use Rattle.packet_rules.specs.RoundTrip.{readings, disparityAfter, AllClean}
+use Rattle.packet_rules.specs.RoundTrip.{AllClean}
 
 -- what reading a line from d comes to
 pub record Comes (ss : List Symbol) (gs : List Reading) (e f : ℤ) : Type 0 where
@@ -28,7 +28,7 @@ pub record Comes (ss : List Symbol) (gs : List Reading) (e f : ℤ) : Type 0 whe
   pub closes : e ≡ f
 
 pub comes : (ss : List Symbol) (d : ℤ) → T (allOf canWrite ss) → T (isDisparity d)
-    → Comes ss (readings (charactersOf ss d) d) (disparityAfter (charactersOf ss d) d) (closingOf ss d)
+    → Comes ss (readingsOf (charactersOf ss d) d) (runClosing (charactersOf ss d) d) (closingOf ss d)
 unfolding charactersOf closingOf
 comes [] d a t = record { symbols = nil; clean = tt; closes = refl }
 comes (s ∷ ss) d a t =
@@ -37,19 +37,9 @@ comes (s ∷ ss) d a t =
     let cs = charactersOf ss e in
     let k = comes ss e (and-right (canWrite s) (allOf canWrite ss) a) (closing-disparity s d t) in
     subst
-    (λ (g : Reading). Comes (s ∷ ss) (g ∷ readings cs (newDisparity d (g .disparity))) (disparityAfter cs (newDisparity d (g .disparity))) (closingOf ss e))
+    (λ (g : Reading). Comes (s ∷ ss) (g ∷ readingsOf cs (newDisparity d (g .disparity))) (runClosing cs (newDisparity d (g .disparity))) (closingOf ss e))
     (sym (reads-back s d (can-byte s w) (can-symbol s w) t))
     (record { symbols = next s e (k .symbols); clean = (refl, k .clean); closes = k .closes })
-
-pub closing-is : (ss : List Symbol) (d : ℤ) → T (isDisparity d) → T (isDisparity (closingOf ss d))
-unfolding closingOf
-closing-is [] d t = t
-closing-is (s ∷ ss) d t = closing-is ss (closing s d) (closing-disparity s d t)
-
-pub length-characters : (ss : List Symbol) (d : ℤ) → length (charactersOf ss d) ≡ length ss
-unfolding charactersOf
-length-characters [] d = refl
-length-characters (s ∷ ss) d = ap suc (length-characters ss (closing s d))
 
 pub all-append : {A : Type 0} (f : A → Bool) (xs ys : List A) → T (allOf f xs) → T (allOf f ys) → T (allOf f (xs ++ ys))
 all-append f [] ys a b = b

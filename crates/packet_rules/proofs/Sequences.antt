@@ -10,22 +10,14 @@ use lib.IntN.{ℤ}
 use lib.ListN.{length, take}
 use Rattle.character_rules.specs.Disparity.{isDisparity}
 use Rattle.character_rules.specs.Answers.{Reading}
-use Rattle.character_rules.specs.Reading.{reading}
-use Rattle.character_rules.specs.Results.{afterOne}
+use Rattle.character_rules.specs.Results.{readingsOf, runClosing}
+use Rattle.character_rules.proofs.RunLaws.{readings-append, closing-append}
 use Rattle.packet_rules.specs.Answers.{Said}
 use Rattle.segment_size.specs.Sizes.{sizeAllowed}
 use Rattle.packet_rules.specs.Packets.{Packet, symbolsOf, PacketWriting, saidFor}
-use Rattle.packet_rules.specs.RoundTrip.{PacketReader, PacketWriter, readings, disparityAfter, AllClean, saysOf, leftOf, ReadBack, PacketRoundTrip, Sequence, last, first, saidForAll}
+use Rattle.packet_rules.specs.RoundTrip.{PacketReader, PacketWriter, AllClean, saysOf, leftOf, ReadBack, PacketRoundTrip, Sequence, last, first, saidForAll}
 
 -- ---- two lines, one after the other
-
-readings-append : (cs ds : List ℕ) (d : ℤ) → readings (cs ++ ds) d ≡ readings cs d ++ readings ds (disparityAfter cs d)
-readings-append [] ds d = refl
-readings-append (c ∷ cs) ds d = ap (λ (l : List Reading). reading c d ∷ l) (readings-append cs ds (afterOne c d))
-
-after-append : (cs ds : List ℕ) (d : ℤ) → disparityAfter (cs ++ ds) d ≡ disparityAfter ds (disparityAfter cs d)
-after-append [] ds d = refl
-after-append (c ∷ cs) ds d = after-append cs ds (afterOne c d)
 
 clean-append : (gs hs : List Reading) → AllClean gs → AllClean hs → AllClean (gs ++ hs)
 clean-append [] hs a b = b
@@ -42,24 +34,24 @@ module _ (reader : PacketReader) where
 
 -- what a whole sequence reads as
 pub record AllBack (reader : PacketReader) (s : ℕ) (ps : List Packet) (d e : ℤ) (characters : List ℕ) : Type 0 where
-  pub clean : AllClean (readings characters d)
-  pub said : saysOf reader (reader .fresh s) (readings characters d) ≡ saidForAll ps
-  pub fresh : leftOf reader (reader .fresh s) (readings characters d) ≡ reader .fresh s
-  pub closes : disparityAfter characters d ≡ e
+  pub clean : AllClean (readingsOf characters d)
+  pub said : saysOf reader (reader .fresh s) (readingsOf characters d) ≡ saidForAll ps
+  pub fresh : leftOf reader (reader .fresh s) (readingsOf characters d) ≡ reader .fresh s
+  pub closes : runClosing characters d ≡ e
 
 joined : (reader : PacketReader) (s : ℕ) (p : Packet) (ps : List Packet) (d e f : ℤ) (cs ds : List ℕ)
     → ReadBack reader s p d e cs → AllBack reader s ps e f ds → AllBack reader s (p ∷ ps) d f (cs ++ ds)
 joined reader s p ps d e f cs ds a b =
     let q = reader .fresh s in
-    let gs = readings cs d in
-    let hs = readings ds e in
-    let line : readings (cs ++ ds) d ≡ gs ++ hs = readings-append cs ds d ∙ ap (λ (x : ℤ). gs ++ readings ds x) (a .closes) in
+    let gs = readingsOf cs d in
+    let hs = readingsOf ds e in
+    let line : readingsOf (cs ++ ds) d ≡ gs ++ hs = readings-append cs ds d ∙ ap (λ (x : ℤ). gs ++ readingsOf ds x) (a .closes) in
     record {
       clean = subst AllClean (sym line) (clean-append gs hs (a .clean) (b .clean));
       said = ap (saysOf reader q) line ∙ says-append reader q gs hs
           ∙ ap₂ _++_ (a .said) (ap (λ (r : reader .State). saysOf reader r hs) (a .fresh) ∙ b .said);
       fresh = ap (leftOf reader q) line ∙ left-append reader q gs hs ∙ ap (λ (r : reader .State). leftOf reader r hs) (a .fresh) ∙ b .fresh;
-      closes = after-append cs ds d ∙ ap (disparityAfter ds) (a .closes) ∙ b .closes;
+      closes = closing-append cs ds d ∙ ap (runClosing ds) (a .closes) ∙ b .closes;
     }
 
 -- THE THEOREM

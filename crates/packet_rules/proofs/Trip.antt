@@ -11,18 +11,21 @@ use lib.Seq.{take-at}
 use Rattle.refusal.proofs.Laws.{done}
 use Rattle.character_rules.specs.Disparity.{isDisparity}
 use Rattle.character_rules.specs.Answers.{Reading}
+use Rattle.character_rules.specs.Results.{readingsOf, runClosing}
+use Rattle.character_rules.specs.Writing.{charactersOf, closingOf}
+use Rattle.character_rules.proofs.WriteLaws.{closing-is, length-characters}
 use Rattle.packet_rules.specs.declared.Reader.{Reader}
 use Rattle.packet_rules.specs.Answers.{Said, Answer}
 use Rattle.packet_rules.specs.State.{fresh}
 use Rattle.segment_size.specs.Sizes.{sizeAllowed}
 use Rattle.packet_rules.specs.Step.{stepOf}
 use Rattle.packet_rules.specs.Line.{saidOf, afterOf}
-use Rattle.packet_rules.specs.Packets.{Packet, inData, retry, symbolsOf, charactersOf, closingOf, packetChecks, PacketWriting, wrote, notWrote, packetWriting, packetOutput, saidFor}
-use Rattle.packet_rules.specs.RoundTrip.{PacketReader, PacketWriter, Allowed, readings, disparityAfter, AllClean, saysOf, leftOf, ReadBack, PacketRoundTrip}
+use Rattle.packet_rules.specs.Packets.{Packet, inData, retry, symbolsOf, packetChecks, PacketWriting, wrote, notWrote, packetWriting, packetOutput, saidFor}
+use Rattle.packet_rules.specs.RoundTrip.{PacketReader, PacketWriter, Allowed, AllClean, saysOf, leftOf, ReadBack, PacketRoundTrip}
 use Rattle.packet_rules.proofs.Kept.{fresh-kept}
 use Rattle.packet_rules.proofs.Runs.{runs-said}
 use Rattle.packet_rules.proofs.Legal.{outsides}
-use Rattle.packet_rules.proofs.Read.{comes, closing-is, length-characters}
+use Rattle.packet_rules.proofs.Read.{comes}
 use Rattle.packet_rules.proofs.Packets.{legal, can, accepted}
 
 -- the rules' own
@@ -47,7 +50,7 @@ back : (s : ℕ) (p : Packet) (d : ℤ) → sizeAllowed s ≡ true → Allowed s
     → ReadBack theReader s p d (closingOf (symbolsOf p) d) (charactersOf (symbolsOf p) d)
 back s p d ok h t =
     let k = comes (symbolsOf p) d (can s p h) t in
-    let gs = readings (charactersOf (symbolsOf p) d) d in
+    let gs = readingsOf (charactersOf (symbolsOf p) d) d in
     let r = runs-said (outsides s (fresh-kept s ok) (symbolsOf p) (saidFor p) (legal s p h)) (k .symbols) in
     record {
       clean = k .clean;

@@ -12,10 +12,11 @@ use lib.ListN.{length, take, replicate}
 use Rattle.segment_size.specs.Sizes.{sizeAllowed}
 use Rattle.laws.proofs.Cases.{false-is-not-true}
 use Rattle.character_rules.specs.Answers.{Reading}
+use Rattle.character_rules.specs.Results.{readingsOf}
 use Rattle.packet_rules.specs.Answers.{Said}
 use Rattle.packet_rules.specs.Line.{SDP}
 use Rattle.packet_rules.specs.Packets.{Packet, inData, symbolsOf, saidFor}
-use Rattle.packet_rules.specs.RoundTrip.{PacketReader, PacketWriter, readings, saysOf, PacketRoundTrip}
+use Rattle.packet_rules.specs.RoundTrip.{PacketReader, PacketWriter, saysOf, PacketRoundTrip}
 use Rattle.packet_rules.proofs.Packets.{length-packet}
 
 -- a packet of one byte is seven characters
@@ -63,7 +64,7 @@ not-every-packet-bad r w t =
     let p = inData 0 (0 ∷ []) false in
     let out : List ℕ = replicate 7 0 in
     let k = t .written 8 p (pos 1) out refl (omega arith, omega arith, tt) tt (omega (arith, seven false)) in
-    let gs = readings (take (length (symbolsOf p)) (w .leaves 8 p (pos 1) out)) (pos 1) in
+    let gs = readingsOf (take (length (symbolsOf p)) (w .leaves 8 p (pos 1) out)) (pos 1) in
     false-is-not-true (sym (none-good r (r .fresh 8) gs) ∙ ap someGood (k .3 .said))
 
 -- ---- nothing stored
@@ -84,5 +85,5 @@ not-stores-nothing r w t =
     let m = t .written 8 q (pos 1) out refl (omega arith, omega arith, tt) tt (omega (arith, lq)) in
     let same : length (symbolsOf p) ≡ length (symbolsOf q) = lp ∙ sym lq in
     let e : saidFor p ≡ saidFor q =
-    sym (k .3 .said) ∙ ap (λ (n : ℕ). saysOf r (r .fresh 8) (readings (take n out) (pos 1))) same ∙ m .3 .said in
+    sym (k .3 .said) ∙ ap (λ (n : ℕ). saysOf r (r .fresh 8) (readingsOf (take n out) (pos 1))) same ∙ m .3 .said in
     false-is-not-true (sym (ap someGood e))

@@ -11,7 +11,7 @@ use Rattle.refusal.specs.Order.{Check, check, outcome, left}
 use Rattle.symbol.specs.Symbols.{dataSymbol}
 use Rattle.symbol.specs.declared.Symbol.{Symbol}
 use Rattle.character_rules.specs.Disparity.{isDisparity}
-use Rattle.character_rules.specs.Blocks.{character, closing as closingAfter}
+use Rattle.character_rules.specs.Writing.{charactersOf, closingOf}
 use Rattle.packet_rules.specs.declared.Written.{Written}
 use Rattle.packet_rules.specs.declared.Written.the-variants.{Done, Refused}
 use Rattle.segment_size.specs.Sizes.{sizeAllowed}
@@ -36,16 +36,6 @@ unfoldable pub symbolsOf : Packet → List Symbol
 symbolsOf (inData c bytes bad) = packetSymbols SDP c bytes bad
 symbolsOf (inPriority c g bytes bad) = packetSymbols SPP (16 * g + c) bytes bad
 symbolsOf (retry nack n) = SLP ∷ dataSymbol (retryByte nack) ∷ dataSymbol n ∷ dataSymbol (bitXor (retryByte nack) n) ∷ []
-
--- ---- characters, each at the disparity that the one before it closed at
-
-unfoldable pub charactersOf : List Symbol → ℤ → List ℕ
-charactersOf [] d = []
-charactersOf (s ∷ ss) d = character s d ∷ charactersOf ss (closingAfter s d)
-
-unfoldable pub closingOf : List Symbol → ℤ → ℤ
-closingOf [] d = d
-closingOf (s ∷ ss) d = closingOf ss (closingAfter s d)
 
 -- ---- the refusals: 1 a number out of range, 2 S not allowed or a segment over S bytes, 4 a packet of no bytes, 6 the output too short
 

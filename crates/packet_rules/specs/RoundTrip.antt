@@ -9,8 +9,7 @@ use lib.ListN.{length, take}
 use Rattle.laws.specs.Lists.{allOf}
 use Rattle.character_rules.specs.Disparity.{isDisparity}
 use Rattle.character_rules.specs.Answers.{Reading}
-use Rattle.character_rules.specs.Reading.{reading}
-use Rattle.character_rules.specs.Results.{afterOne}
+use Rattle.character_rules.specs.Results.{readingsOf, runClosing}
 use Rattle.segment_size.specs.Sizes.{sizeAllowed}
 use Rattle.packet_rules.specs.Answers.{Said}
 use Rattle.packet_rules.specs.Packets.{Packet, inData, inPriority, retry, symbolsOf, saidFor, PacketWriting, wrote}
@@ -35,14 +34,6 @@ Allowed s (retry nack n) = n < 16
 
 -- ---- a line of characters, read from a disparity
 
-abbrev pub readings : List ℕ → ℤ → List Reading
-readings [] d = []
-readings (c ∷ cs) d = reading c d ∷ readings cs (afterOne c d)
-
-abbrev pub disparityAfter : List ℕ → ℤ → ℤ
-disparityAfter [] d = d
-disparityAfter (c ∷ cs) d = disparityAfter cs (afterOne c d)
-
 abbrev pub AllClean : List Reading → Type 0
 AllClean [] = Unit {0}
 AllClean (g ∷ gs) = (g .violation ≡ 0) × AllClean gs
@@ -59,10 +50,10 @@ module _ (reader : PacketReader) where
 -- what was written of a packet, read from that disparity, is the packet: said exactly, all characters clean, the closing disparity the same, the
 -- reader fresh again
 pub record ReadBack (reader : PacketReader) (s : ℕ) (p : Packet) (d e : ℤ) (characters : List ℕ) : Type 0 where
-  pub clean : AllClean (readings characters d)
-  pub said : saysOf reader (reader .fresh s) (readings characters d) ≡ saidFor p
-  pub fresh : leftOf reader (reader .fresh s) (readings characters d) ≡ reader .fresh s
-  pub closes : disparityAfter characters d ≡ e
+  pub clean : AllClean (readingsOf characters d)
+  pub said : saysOf reader (reader .fresh s) (readingsOf characters d) ≡ saidFor p
+  pub fresh : leftOf reader (reader .fresh s) (readingsOf characters d) ≡ reader .fresh s
+  pub closes : runClosing characters d ≡ e
 
 -- THE ROUND TRIP: into every output that is long enough the writer writes all of the packet's characters, and they read back
 pub record PacketRoundTrip (reader : PacketReader) (writer : PacketWriter) : Type 0 where

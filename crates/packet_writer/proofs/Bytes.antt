@@ -12,25 +12,12 @@ use lib.Seq.{take-all, drop-drop, drop-length}
 use Rattle.laws.proofs.Bools.{T-true}
 use Rattle.symbol.specs.Symbols.{dataSymbol}
 use Rattle.character_rules.specs.Disparity.{isDisparity}
-use Rattle.character_rules.specs.Blocks.{character, closing}
 use Rattle.character_rules.specs.Answers.{RunWriting, runWritten, notRunWritten}
-use Rattle.character_rules.specs.Writing.{runCharacters, runEnd, runWriting, runStored}
+use Rattle.character_rules.specs.Writing.{runCharacters, runEnd, runWriting, runStored, charactersOf, closingOf}
 use Rattle.character_rules.proofs.WriteLaws.{write-done}
-use Rattle.packet_rules.specs.Packets.{charactersOf, closingOf}
 use Rattle.packet_writer.specs.declared.Place.{Place}
 use Rattle.packet_writer.specs.Writing.{Wrote}
 use Rattle.packet_writer.proofs.Turns.{length-map}
-
--- a run of bytes is a run of their symbols
-characters-are : (bs : List ℕ) (d : ℤ) → runCharacters bs d ≡ charactersOf (map dataSymbol bs) d
-unfolding charactersOf
-characters-are [] d = refl
-characters-are (b ∷ bs) d = ap (_∷_ (character (dataSymbol b) d)) (characters-are bs (closing (dataSymbol b) d))
-
-end-is : (bs : List ℕ) (d : ℤ) → runEnd bs d ≡ closingOf (map dataSymbol bs) d
-unfolding closingOf
-end-is [] d = refl
-end-is (b ∷ bs) d = end-is bs (closing (dataSymbol b) d)
 
 module _ (p : Place) (bs old : List ℕ) (room : p .at + length bs ≤ length old) (t : T (isDisparity (p .disparity))) where
   abbrev past : List ℕ
@@ -57,14 +44,14 @@ module _ (p : Place) (bs old : List ℕ) (room : p .at + length bs ≤ length ol
   line ys e =
       ap (λ (l : List ℕ). take (p .at) old ++ l)
       (ap (λ (l : List ℕ). ys ++ l) nothing-after ∙ append-nil ys ∙ e ∙ sym (done .1)
-      ∙ ap₂ (λ (a b : List ℕ). a ++ b) (characters-are bs (p .disparity))
+      ∙ ap (λ (l : List ℕ). charactersOf (map dataSymbol bs) (p .disparity) ++ l)
       (ap (drop (length bs)) part-is ∙ drop-drop (length bs) (p .at) old
       ∙ ap (λ (n : ℕ). drop (p .at + n) old) (sym (length-map dataSymbol bs))))
 
   -- where the run was written it closes as its symbols do
   pub run-closing : (e : ℤ) → runWritten e ≡ runWriting bs (p .disparity) (length part) → e ≡ closingOf (map dataSymbol bs) (p .disparity)
   run-closing e h =
-      Option·some-injective _ _ (ap (λ (w : RunWriting). w .disparity) (h ∙ sym (done .0))) ∙ end-is bs (p .disparity)
+      Option·some-injective _ _ (ap (λ (w : RunWriting). w .disparity) (h ∙ sym (done .0)))
 
   pub run-wrote : (ys : List ℕ) (q : Place) → ys ≡ runStored bs (p .disparity) part → q .at ≡ p .at + length bs
       → q .disparity ≡ closingOf (map dataSymbol bs) (p .disparity)

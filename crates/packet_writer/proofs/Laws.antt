@@ -15,23 +15,12 @@ use Rattle.symbol.specs.declared.Symbol.{Symbol}
 use Rattle.character_rules.specs.Disparity.{isDisparity}
 use Rattle.character_rules.specs.Blocks.{character, closing}
 use Rattle.character_rules.specs.Answers.{Writing, written, notWritten}
-use Rattle.character_rules.specs.Writing.{writing}
+use Rattle.character_rules.specs.Writing.{writing, charactersOf, closingOf}
 use Rattle.character_rules.specs.Demand.{canWrite}
 use Rattle.character_rules.proofs.Trip.{writes}
-use Rattle.packet_rules.specs.Packets.{charactersOf, closingOf}
-use Rattle.packet_rules.proofs.Read.{length-characters, closing-is}
+use Rattle.character_rules.proofs.WriteLaws.{closing-is, length-characters, characters-append, closes-append}
 use Rattle.packet_writer.specs.declared.Place.{Place}
 use Rattle.packet_writer.specs.Writing.{Wrote}
-
-characters-append : (xs ys : List Symbol) (d : ℤ) → charactersOf (xs ++ ys) d ≡ charactersOf xs d ++ charactersOf ys (closingOf xs d)
-unfolding charactersOf closingOf
-characters-append [] ys d = refl
-characters-append (x ∷ xs) ys d = ap (_∷_ (character x d)) (characters-append xs ys (closing x d))
-
-closing-append : (xs ys : List Symbol) (d : ℤ) → closingOf (xs ++ ys) d ≡ closingOf ys (closingOf xs d)
-unfolding closingOf
-closing-append [] ys d = refl
-closing-append (x ∷ xs) ys d = closing-append xs ys (closing x d)
 
 pub wrote-none : (p : Place) (old : List ℕ) → Wrote p [] old old p
 unfolding charactersOf closingOf
@@ -64,7 +53,7 @@ then p {s} xs ys {old} {mid} {new} h e v =
       line = v .line ∙ paste-paste (p .at) (length xs) (length ys) (charactersOf xs d) (charactersOf ys (closingOf xs d)) old mid h (length-characters xs d) e
           ∙ ap₂ (λ (x : List ℕ) (k : ℕ). take (p .at) old ++ (x ++ drop (p .at + k) old)) (sym (characters-append xs ys d)) (sym (length-append xs ys));
       next = v .next ∙ ap₂ (λ (n : ℕ) (z : ℤ). record { at = n; disparity = z })
-          (add-assoc (p .at) (length xs) (length ys) ∙ ap (λ (k : ℕ). p .at + k) (sym (length-append xs ys))) (sym (closing-append xs ys d));
+          (add-assoc (p .at) (length xs) (length ys) ∙ ap (λ (k : ℕ). p .at + k) (sym (length-append xs ys))) (sym (closes-append xs ys d));
     }
 
 pub wrote-more : {p q s : Place} {xs ys : List Symbol} {old mid new : List ℕ}

@@ -9,8 +9,9 @@ use lib.IntN.{ℤ}
 use lib.ListN.{length, drop}
 use Rattle.refusal.specs.Order.{refusalOf}
 use Rattle.refusal.proofs.Laws.{done, refused, hands-back}
+use Rattle.character_rules.specs.Writing.{charactersOf, closingOf}
 use Rattle.packet_rules.specs.Line.{SPP}
-use Rattle.packet_rules.specs.Packets.{Packet, inPriority, packetSymbols, symbolsOf, charactersOf, closingOf, packetChecks}
+use Rattle.packet_rules.specs.Packets.{Packet, inPriority, packetSymbols, symbolsOf, packetChecks}
 use Rattle.packet_rules.specs.Packets.{PacketWriting, wrote, notWrote, packetWriting, packetOutput}
 use Rattle.packet_writer.specs.declared.Place.{Place}
 use Rattle.packet_writer.specs.Writing.{Wrote}

@@ -14,8 +14,8 @@ use Rattle.laws.specs.Lists.{allOf}
 use Rattle.laws.proofs.Bools.{and-left, and-right}
 use Rattle.symbol.specs.declared.Symbol.{Symbol}
 use Rattle.character_rules.specs.Disparity.{isDisparity}
-use Rattle.packet_rules.specs.Packets.{closingOf}
-use Rattle.packet_rules.proofs.Read.{closing-is}
+use Rattle.character_rules.specs.Writing.{closingOf}
+use Rattle.character_rules.proofs.WriteLaws.{closing-is}
 use Rattle.packet_writer.specs.declared.Place.{Place}
 use Rattle.packet_writer.specs.Writing.{Wrote}
 use Rattle.packet_writer.proofs.Laws.{wrote-more}

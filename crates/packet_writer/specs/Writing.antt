@@ -8,8 +8,8 @@ use lib.Dec.{eqb}
 use lib.ListN.{length, take, drop}
 use Rattle.symbol.specs.Symbols.{dataSymbol}
 use Rattle.symbol.specs.declared.Symbol.{Symbol}
+use Rattle.character_rules.specs.Writing.{charactersOf, closingOf}
 use Rattle.packet_rules.specs.Line.{SLP}
-use Rattle.packet_rules.specs.Packets.{charactersOf, closingOf}
 use Rattle.packet_writer.specs.declared.Place.{Place}
 
 -- a symbol by its number: the byte, and 256 more for control

@@ -9,13 +9,12 @@ use lib.Dec.{T, eqb, ltb, eqb→eq, ltb→lt}
 use lib.ListN.{length, getD}
 use Rattle.laws.proofs.Bools.{and-left, and-right}
 use Rattle.laws.proofs.Table.{at}
-use Rattle.character_rules.specs.Disparity.{disparityOf}
+use Rattle.character_rules.specs.Disparity.{disparityOf, halfOf}
 use Rattle.character_rules.specs.Reading.{reading}
 use Rattle.character_rules.specs.Results.{packed}
 use Rattle.character_table.specs.Entries.{resultIn}
 use Rattle.character_table.specs.Table.{table as single}
 use Rattle.character_table.proofs.Held.{table-right}
-use Rattle.run_table.specs.Entries.{halfOf}
 use Rattle.run_table.specs.Table.{table}
 
 -- a half is the result that the reader's table has, which is below 4,096

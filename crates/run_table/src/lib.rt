@@ -1,4 +1,4 @@
-// The reader's table as a run takes it: for each of 1,024 characters both packed results, whole. specs/Entries.antt says how an entry holds them.
+// The reader's table as a run takes it: for each of 1,024 characters both packed results, whole: that at −1 in the lower half, that at +1 in the upper half.
 pub const TABLE: [u32; 1024] = [
     167772672,
     167772672,

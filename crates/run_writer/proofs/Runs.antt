@@ -2,19 +2,20 @@
 -- Assumes nothing.
 use mathlib.Core.Path.{_≡_, refl, sym, _∙_, ap}
 use mathlib.Core.Bool.{Bool, true, false}
-use mathlib.Core.List.{List, _++_}
+use mathlib.Core.List.{List, _++_, map}
 use Prim.Native.Nat.{ℕ, _≤_}
 use lib.Dec.{T, eqb}
 use lib.IntN.{ℤ}
 use lib.ListN.{length, drop}
 use Rattle.laws.proofs.Bools.{true-T}
+use Rattle.symbol.specs.Symbols.{dataSymbol}
 use Rattle.character_rules.specs.Disparity.{isPlus, isDisparity, disparityOf}
 use Rattle.character_rules.specs.Answers.{runWritten}
 use Rattle.character_rules.specs.Results.{mark}
 use Rattle.character_rules.specs.Writing.{runCharacters, runEnd, runWriting, runStored}
 use Rattle.character_rules.proofs.Disparities.{by-sign}
 use Rattle.character_rules.proofs.Packed.{mark-is}
-use Rattle.character_rules.proofs.WriteLaws.{end-disparity, write-done}
+use Rattle.character_rules.proofs.WriteLaws.{closing-is, write-done}
 use Rattle.disparity.proofs.Signed.{again, back}
 
 module _
@@ -27,7 +28,7 @@ module _
       ap (λ (n : ℕ). disparityOf (eqb n 1)) hfrom ∙ ap disparityOf (mark-is plus ∙ hplus) ∙ by-sign d (true-T (isDisparity d) t)
 
   ends : T (isDisparity (runEnd bs d))
-  ends = end-disparity bs d (true-T (isDisparity d) t)
+  ends = closing-is (map dataSymbol bs) d (true-T (isDisparity d) t)
 
   after : again e ≡ runEnd bs d
   after = ap again (he ∙ hp ∙ ap (runEnd bs) start) ∙ back (runEnd bs d) ends

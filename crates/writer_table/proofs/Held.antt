@@ -11,11 +11,11 @@ use lib.IntN.{ℤ, pos, negsuc}
 use Rattle.laws.proofs.Bools.{and-left, and-right}
 use Rattle.laws.proofs.Table.{at}
 use Rattle.symbol.specs.Symbols.{dataSymbol}
-use Rattle.character_rules.specs.Disparity.{disparityOf}
+use Rattle.character_rules.specs.Disparity.{disparityOf, halfOf}
 use Rattle.character_rules.specs.Blocks.{sixBlocks, fourBlocks, controlFourBlocks, sixBlock, fourByList, fourBlock}
 use Rattle.character_rules.specs.Blocks.{firstBlock, between, secondBlock, character, closing}
 use Rattle.character_rules.specs.Results.{mark}
-use Rattle.writer_table.specs.Entries.{halfOf, form}
+use Rattle.writer_table.specs.Entries.{form}
 use Rattle.writer_table.specs.Table.{table}
 
 unfoldable right : ℕ → ℕ → Bool

@@ -5,9 +5,9 @@ use mathlib.Core.List.{List}
 use Prim.Native.Nat.{ℕ, _<_}
 use native.Mathlib.Omega.{arith}
 use lib.ListN.{getD}
-use Rattle.run_table.specs.Entries.{halfOf}
 use Rattle.run_table.proofs.Halves.{half-right, half-low}
 use borrow.Author.Needs.{needs}
+use Rattle.character_rules.specs.Disparity.{halfOf}
 use Rattle.character_reader.proofs.half_of.Statement.{statement}
 use Rattle.character_reader.proofs.half_of.Tie as tie
 

@@ -10,12 +10,13 @@ use Rattle.character_rules.specs.Disparity.{disparityOf}
 use Rattle.character_rules.specs.Reading.{reading}
 use Rattle.character_rules.specs.Results.{packed, unpacked}
 use Rattle.character_rules.proofs.Packed.{unpacked-reading}
+use Rattle.character_rules.proofs.RunLaws.{disparity-is}
 use Rattle.capture_rules.specs.Capture.{charactersOf}
 use Rattle.capture_rules.proofs.Packing.{characters-below, characters-length}
 use Rattle.packet_rules.specs.Answers.{Answer}
 use Rattle.packet_rules.specs.Step.{stepOf}
 use Rattle.events_rules.specs.Numbers.{packedEvent}
-use Rattle.events_rules.proofs.Runs.{disparity-is, ran-one}
+use Rattle.events_rules.proofs.Runs.{ran-one}
 use Rattle.events.proofs.read_one.Statement.{statement}
 use Rattle.events.proofs.read_one.Tie as tie
 

@@ -5,9 +5,9 @@ use mathlib.Core.List.{List}
 use Prim.Native.Nat.{ℕ}
 use native.Mathlib.Omega.{arith}
 use lib.ListN.{getD}
-use Rattle.writer_table.specs.Entries.{halfOf}
 use Rattle.writer_table.proofs.Held.{table-half}
 use borrow.Author.Needs.{needs}
+use Rattle.character_rules.specs.Disparity.{halfOf}
 use Rattle.run_writer.proofs.look_up.Statement.{statement}
 use Rattle.run_writer.proofs.look_up.Tie as tie
 
