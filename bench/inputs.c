@@ -47,28 +47,32 @@ static void ending(unsigned opening, uint16_t r) {
   symbol(~r >> 8 & 255);
 }
 
-static void priority(void) {
-  unsigned opening = random_below(256), n = 1 + random_below(SIZE);
-  uint16_t r = 0xFFFF;
-  control(SPP);
+static unsigned beginning(unsigned start) {
+  unsigned opening = random_below(256);
+  control(start);
   symbol(opening);
-  while (n--) {
-    unsigned b = random_below(256);
-    symbol(b);
-    r = crc_step(r, (uint8_t)b);
-  }
+  return opening;
+}
+
+/* A user byte; the CRC's register after it. */
+static uint16_t user_byte(uint16_t r) {
+  unsigned b = random_below(256);
+  symbol(b);
+  return crc_step(r, (uint8_t)b);
+}
+
+static void priority(void) {
+  unsigned opening = beginning(SPP), n = 1 + random_below(SIZE);
+  uint16_t r = 0xFFFF;
+  while (n--) r = user_byte(r);
   ending(opening, r);
 }
 
 static void data(void) {
-  unsigned opening = random_below(256), n = 64 + random_below(256);
+  unsigned opening = beginning(SDP), n = 64 + random_below(256);
   uint16_t r = 0xFFFF;
-  control(SDP);
-  symbol(opening);
   while (n--) {
-    unsigned b = random_below(256);
-    symbol(b);
-    r = crc_step(r, (uint8_t)b);
+    r = user_byte(r);
     if (!random_below(200)) priority();
     if (!random_below(200)) reply();
     if (!random_below(400)) idles();

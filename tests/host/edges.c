@@ -1,22 +1,11 @@
 /* Beside entries.c: every output at exactly the result's length, at one less and at one more; and the refusals that a call shares with others and that
  * entries.c tries at one of them. Outputs are heap blocks of exactly their length, so that a checker of memory sees one byte too much. */
-#include "buzzgarland.h"
-#include <stdio.h>
+#include "lent.h"
 #include <stdlib.h>
-#include <string.h>
-
-static int failures;
-
-#define CHECK(c) do { if (!(c)) { printf("edges.c:%d: %s\n", __LINE__, #c); failures++; } } while (0)
 
 /* What is lent beside the output under test. */
 static struct lent {
-  buzz_reader reader;
-  buzz_sender sender;
-  buzz_receiver receiver;
-  int32_t disparity;
-  uint32_t a, b, c, d, e, f;
-  size_t n;
+  LENT
   uint16_t characters[8];
   uint8_t bytes[8], capture[8], buffers[64];
 } m, before;
@@ -32,8 +21,6 @@ static void begin(void) {
   CHECK(buzz_receiver_fresh(8, &m.receiver) == BUZZ_OK);
   CHECK(buzz_sender_offer(&m.sender, m.buffers, 64, 9, 1, m.bytes, 5, &m.a) == BUZZ_OK && m.a == 0);
 }
-
-#define REFUSED(number, call) do { before = m; CHECK((call) == (number)); CHECK(memcmp(&before, &m, sizeof m) == 0); } while (0)
 
 /* ---- outputs ---- */
 

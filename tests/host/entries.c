@@ -1,20 +1,9 @@
 /* Every entry point and every refusal. All that a call is lent stands in one struct, which is compared whole, before and after. */
-#include "buzzgarland.h"
-#include <stdio.h>
-#include <string.h>
-
-static int failures;
-
-#define CHECK(c) do { if (!(c)) { printf("entries.c:%d: %s\n", __LINE__, #c); failures++; } } while (0)
+#include "lent.h"
 
 /* What is lent. The bytes past what a call is given are part of it. */
 static struct lent {
-  buzz_reader reader;
-  buzz_sender sender;
-  buzz_receiver receiver;
-  int32_t disparity;
-  uint32_t a, b, c, d, e, f;
-  size_t n;
+  LENT
   uint16_t characters[64];
   uint16_t results[64];
   uint8_t bytes[64];
@@ -26,9 +15,6 @@ static void begin(void) {
   memset(&m, 0xA5, sizeof m);
   m.disparity = -1;
 }
-
-/* A call that must be refused with the number and leave all as it stood. */
-#define REFUSED(number, call) do { before = m; CHECK((call) == (number)); CHECK(memcmp(&before, &m, sizeof m) == 0); } while (0)
 
 static void characters(void) {
   begin();
@@ -174,17 +160,22 @@ static void packets(void) {
 #define OFFER(channel, length) buzz_sender_offer(&m.sender, m.buffers, 64, channel, 0, m.bytes, length, &m.a)
 #define SEND(room) buzz_sender_send(&m.sender, m.buffers, 64, m.output, room, &m.a, &m.b, &m.c, &m.d, &m.e)
 
+/* Every call of a sender that holds a state is refused with the number. */
+static void all_refused(uint32_t number, uint32_t channel, size_t length, size_t room, uint32_t reply) {
+  REFUSED(number, OFFER(channel, length));
+  REFUSED(number, SEND(room));
+  REFUSED(number, buzz_sender_reply(&m.sender, 0, reply));
+  REFUSED(number, buzz_sender_damaged_reply(&m.sender));
+  REFUSED(number, buzz_sender_tick(&m.sender, &m.a));
+}
+
 static void sender(void) {
   begin();
   REFUSED(BUZZ_OUT_OF_RANGE, buzz_sender_fresh(0, 8, &m.sender));
   REFUSED(BUZZ_OUT_OF_RANGE, buzz_sender_fresh(65536, 12, &m.sender));
   REFUSED(BUZZ_SEGMENT_SIZE, buzz_sender_fresh(3, 12, &m.sender));
   memset(&m.sender, 0, sizeof m.sender);
-  REFUSED(BUZZ_OUT_OF_RANGE, OFFER(0, 1));
-  REFUSED(BUZZ_OUT_OF_RANGE, SEND(64));
-  REFUSED(BUZZ_OUT_OF_RANGE, buzz_sender_reply(&m.sender, 0, 0));
-  REFUSED(BUZZ_OUT_OF_RANGE, buzz_sender_damaged_reply(&m.sender));
-  REFUSED(BUZZ_OUT_OF_RANGE, buzz_sender_tick(&m.sender, &m.a));
+  all_refused(BUZZ_OUT_OF_RANGE, 0, 1, 64, 0);
   REFUSED(BUZZ_OUT_OF_RANGE, buzz_sender_reset(&m.sender, 3, 8));
   CHECK(buzz_sender_fresh(3, 8, &m.sender) == BUZZ_OK);
   REFUSED(BUZZ_OUT_OF_RANGE, OFFER(16, 9));
@@ -209,11 +200,7 @@ static void sender(void) {
   CHECK(SEND(64) == BUZZ_OK && m.a == 1 && m.b == 1 && m.c == 1 && m.e == 2);
   for (int i = 0; i < 8; i++) CHECK(buzz_sender_tick(&m.sender, &m.a) == BUZZ_OK && m.a == 0);
   CHECK(buzz_sender_tick(&m.sender, &m.a) == BUZZ_OK && m.a == 1);
-  REFUSED(BUZZ_LINK_DOWN, OFFER(16, 9));
-  REFUSED(BUZZ_LINK_DOWN, SEND(0));
-  REFUSED(BUZZ_LINK_DOWN, buzz_sender_reply(&m.sender, 0, 16));
-  REFUSED(BUZZ_LINK_DOWN, buzz_sender_damaged_reply(&m.sender));
-  REFUSED(BUZZ_LINK_DOWN, buzz_sender_tick(&m.sender, &m.a));
+  all_refused(BUZZ_LINK_DOWN, 16, 9, 0, 16);
   REFUSED(BUZZ_OUT_OF_RANGE, buzz_sender_reset(&m.sender, 0, 8));
   REFUSED(BUZZ_SEGMENT_SIZE, buzz_sender_reset(&m.sender, 3, 9));
   CHECK(buzz_sender_reset(&m.sender, 3, 8) == BUZZ_OK);
