@@ -16,7 +16,7 @@ use Rattle.packet_rules.specs.declared.Step.{Step}
 use Rattle.packet_rules.specs.State.{openingByte, registerIn}
 use Rattle.packet_rules.specs.Violations.{rightCrc}
 use Rattle.packet_rules.specs.Step.{dueAfter}
-use Rattle.packet_turns.specs.Tree.{movedTo, violatedTo, closedTo, startedData, startedPriority}
+use Rattle.packet_answers.specs.Answers.{movedTo, violatedTo, closedTo, startedData, startedPriority}
 
 -- ---- the byte that a begun sequence is due
 
