@@ -56,8 +56,8 @@ fn clean(r: Reader, phase: Phase, k: Kind) -> Step
     match phase {
         Phase::Free => packet_turns::free(r, k),
         Phase::Next(due) => packet_sequences::in_sequence(r, due, k),
-        Phase::Idles(n) => packet_sequences::in_idles(r, n, k),
-        Phase::Dropping => packet_sequences::dropping(r, k),
+        Phase::Idles(n) => packet_idles::in_idles(r, n, k),
+        Phase::Dropping => packet_idles::dropping(r, k),
     }
 }
 

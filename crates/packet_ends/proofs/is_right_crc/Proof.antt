@@ -3,8 +3,8 @@
 use borrow.Author.Needs.{needs}
 use mathlib.Core.Path.{_≡_, refl, ap, sym, _∙_}
 use borrow.Author.Tests.{le-leb, lt-leb, lt-ltb, le-ltb, eq-eqb, ne-eqb}
-use Rattle.packet_sequences.proofs.is_right_crc.Statement.{statement}
-use Rattle.packet_sequences.proofs.is_right_crc.Tie as tie
+use Rattle.packet_ends.proofs.is_right_crc.Statement.{statement}
+use Rattle.packet_ends.proofs.is_right_crc.Tie as tie
 
 check-bytes-requires : tie.Need-check-bytes-requires
 check-bytes-requires c κs = search needs

@@ -3,9 +3,9 @@
 use borrow.Author.Needs.{needs}
 use mathlib.Core.Path.{_≡_, refl, ap, sym, _∙_}
 use borrow.Author.Tests.{le-leb, lt-leb, lt-ltb, le-ltb, eq-eqb, ne-eqb}
-use Rattle.packet_sequences.specs.Sequences.{idleOf}
-use Rattle.packet_sequences.proofs.in_idles.Statement.{statement}
-use Rattle.packet_sequences.proofs.in_idles.Tie as tie
+use Rattle.packet_idles.specs.Idles.{idleOf}
+use Rattle.packet_idles.proofs.in_idles.Statement.{statement}
+use Rattle.packet_idles.proofs.in_idles.Tie as tie
 
 enum-told : tie.Need-enum-told
 enum-told c = search needs

@@ -2,9 +2,9 @@
 -- Assumes nothing.
 use borrow.Author.Needs.{needs}
 use mathlib.Core.Path.{_≡_, refl, ap, sym, _∙_}
-use Rattle.packet_sequences.specs.Sequences.{dropOf}
-use Rattle.packet_sequences.proofs.dropping.Statement.{statement}
-use Rattle.packet_sequences.proofs.dropping.Tie as tie
+use Rattle.packet_idles.specs.Idles.{dropOf}
+use Rattle.packet_idles.proofs.dropping.Statement.{statement}
+use Rattle.packet_idles.proofs.dropping.Tie as tie
 
 enum-told : tie.Need-enum-told
 enum-told c = search needs
