@@ -21,7 +21,7 @@ pub fn closing_byte(r: Reader, bad: bool, b: u8) -> Step
 {
     let d = r.packet;
     let p = r.priority;
-    if b == packet_state::opening_byte(d, p) {
+    if b == packet_open::opening_byte(d, p) {
         packet_answers::moved(Event::Nothing, Phase::Next(Due::FirstCrc(bad)), r)
     } else {
         packet_answers::violated(5, r)
@@ -34,7 +34,7 @@ pub fn second_crc(r: Reader, bad: bool, a: u8, b: u8) -> Step
 {
     let d = r.packet;
     let p = r.priority;
-    if is_right_crc(packet_state::register_in(d, p), a, b) {
+    if is_right_crc(packet_open::register_in(d, p), a, b) {
         packet_answers::closed(Event::End { bad }, r, p)
     } else {
         packet_answers::closed(Event::Violation(6), r, p)

@@ -83,10 +83,10 @@ fn user_byte(r: Reader, d: DataPacket, p: PriorityPacket, b: u8) -> Step
 fn end_symbol(r: Reader, d: DataPacket, p: PriorityPacket, bad: bool) -> Step
     ensures { λ s. ⌜ s ≡ endIn d p bad r ⌝ }
 {
-    if packet_state::is_outside(d, p) {
+    if packet_open::is_outside(d, p) {
         return packet_answers::violated(4, r);
     }
-    if packet_state::has_byte(d, p) {
+    if packet_open::has_byte(d, p) {
         packet_answers::moved(Event::Nothing, Phase::Next(Due::Closing(bad)), r)
     } else {
         packet_answers::violated(8, r)
@@ -97,8 +97,8 @@ fn may_start(o: Opener, d: DataPacket, p: PriorityPacket) -> bool
     ensures { λ r. ⌜ r ≡ mayStart o d p ⌝ }
 {
     match o {
-        Opener::Sdp => packet_state::is_outside(d, p),
-        Opener::Spp => packet_state::has_no_priority(p),
+        Opener::Sdp => packet_open::is_outside(d, p),
+        Opener::Spp => packet_open::has_no_priority(p),
         Opener::Slp => true,
     }
 }

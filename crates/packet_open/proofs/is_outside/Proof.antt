@@ -2,8 +2,8 @@
 -- Assumes nothing.
 use borrow.Author.Needs.{needs}
 use mathlib.Core.Path.{_≡_, refl, ap, sym, _∙_}
-use Rattle.packet_state.proofs.is_outside.Statement.{statement}
-use Rattle.packet_state.proofs.is_outside.Tie as tie
+use Rattle.packet_open.proofs.is_outside.Statement.{statement}
+use Rattle.packet_open.proofs.is_outside.Tie as tie
 
 enum-told : tie.Need-enum-told
 enum-told c = search needs

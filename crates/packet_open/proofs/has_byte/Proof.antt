@@ -2,8 +2,8 @@
 -- Assumes nothing.
 use borrow.Author.Needs.{needs}
 use mathlib.Core.Path.{_≡_, refl, ap, sym, _∙_}
-use Rattle.packet_state.proofs.has_byte.Statement.{statement}
-use Rattle.packet_state.proofs.has_byte.Tie as tie
+use Rattle.packet_open.proofs.has_byte.Statement.{statement}
+use Rattle.packet_open.proofs.has_byte.Tie as tie
 
 enum-known-p : tie.Need-enum-known-p
 enum-known-p c = search needs
