@@ -22,11 +22,11 @@ fn read(capture: &[u8], bytes: [u8; 15], disparity: i32, events: &mut [u32]) -> 
     ensures { λ r. ⌜ (r ≡ captureNumbers (now (capture .entry)) bytes disparity (length (now (events .entry))))
         × (now (events .exit) ≡ eventsNumbers (now (capture .entry)) bytes disparity (now (events .entry))) ⌝ }
 {
-    let given = host_reader::loads::reader_in(bytes);
+    let given = host_reader::reader_in(bytes);
     if !capture::is_legal(capture) {
         return not_read(refusal::BAD_CAPTURE, given, disparity);
     }
-    if !host_reader::loads::is_reader(bytes) {
+    if !host_reader_bytes::is_reader(bytes) {
         return not_read(refusal::OUT_OF_RANGE, given, disparity);
     }
     events::read_capture(capture, given, disparity, events)
@@ -56,7 +56,7 @@ pub extern "C" fn buzz_read_capture(
         return done.refusal as u32;
     }
     let next = done.reader;
-    *reader = host_reader::reader_bytes(next);
+    *reader = host_reader_bytes::reader_bytes(next);
     let closing = done.disparity;
     *disparity = closing;
     *count = done.count;

@@ -1,4 +1,3 @@
-// What C calls of the packet reader and the packet writer, and the CRC by itself.
+// What C calls of the packet writer, and the CRC by itself.
 mod checks;
-mod readers;
 mod writers;

@@ -42,8 +42,8 @@ fn refused(r: Reader) -> Step
 pub fn step(bytes: [u8; 15], violation: u32, byte: u32, control: u32) -> Step
     ensures { λ s. ⌜ stepSays s ≡ stepNumbers bytes violation byte control ⌝ }
 {
-    let r = host_reader::loads::reader_in(bytes);
-    if !host_reader::loads::is_reader(bytes) {
+    let r = host_reader::reader_in(bytes);
+    if !host_reader_bytes::is_reader(bytes) {
         return refused(r);
     }
     if 2 < violation {

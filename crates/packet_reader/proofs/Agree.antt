@@ -34,8 +34,9 @@ use Rattle.packet_rules.specs.Step.{lmpSaid, broken, dropped, readOf, stepOf}
 use Rattle.packet_rules.specs.Line.{isReply}
 use Rattle.packet_rules.proofs.Steps.{st}
 use Rattle.packet_rules.proofs.Legal.{reply-said, other-said}
-use Rattle.packet_turns.specs.Tree.{mayStart, freeOf}
-use Rattle.packet_sequences.specs.Sequences.{lmpOf, dueOf, seqOf, idleOf, dropOf}
+use Rattle.packet_turns.specs.Turns.{mayStart, freeOf}
+use Rattle.packet_sequences.specs.Sequences.{lmpOf, dueOf, seqOf}
+use Rattle.packet_idles.specs.Idles.{idleOf, dropOf}
 use Rattle.packet_reader.specs.Classes.{classOf, cleanOf, spoiledOf, refusedTo, advanceOf}
 
 -- ---- what a right LMP gives

@@ -12,8 +12,10 @@ use Rattle.packet_rules.specs.declared.Step.{Step}
 use Rattle.packet_rules.specs.Symbols.{kindOf}
 use Rattle.packet_rules.specs.declared.Phase.{Phase}
 use Rattle.packet_rules.specs.declared.Phase.the-variants.{Free, Next, Idles, Dropping}
-use Rattle.packet_turns.specs.Tree.{movedTo, violatedTo, freeOf}
-use Rattle.packet_sequences.specs.Sequences.{seqOf, idleOf, dropOf}
+use Rattle.packet_answers.specs.Answers.{movedTo, violatedTo}
+use Rattle.packet_turns.specs.Turns.{freeOf}
+use Rattle.packet_sequences.specs.Sequences.{seqOf}
+use Rattle.packet_idles.specs.Idles.{idleOf, dropOf}
 use Rattle.packet_reader.specs.declared.Class.{Class}
 use Rattle.packet_reader.specs.declared.Class.the-variants.{Known, Unknown}
 

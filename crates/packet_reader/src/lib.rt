@@ -9,8 +9,6 @@ use packet_rules::Phase;
 use packet_rules::PriorityPacket;
 use packet_rules::Reader;
 use packet_rules::Step;
-use packet_turns::answers;
-use packet_turns::unbegun;
 use symbol::Symbol;
 ghost use mathlib.Core.Path.{_≡_};
 ghost use Rattle.character_rules.specs.Answers.{readingSays};
@@ -56,10 +54,10 @@ fn clean(r: Reader, phase: Phase, k: Kind) -> Step
     ensures { λ s. ⌜ s ≡ cleanOf phase k r ⌝ }
 {
     match phase {
-        Phase::Free => unbegun::free(r, k),
+        Phase::Free => packet_turns::free(r, k),
         Phase::Next(due) => packet_sequences::in_sequence(r, due, k),
-        Phase::Idles(n) => packet_sequences::in_idles(r, n, k),
-        Phase::Dropping => packet_sequences::dropping(r, k),
+        Phase::Idles(n) => packet_idles::in_idles(r, n, k),
+        Phase::Dropping => packet_idles::dropping(r, k),
     }
 }
 
@@ -68,10 +66,10 @@ fn spoiled(n: u8, phase: Phase, r: Reader) -> Step
     ensures { λ s. ⌜ s ≡ spoiledOf n phase r ⌝ }
 {
     match phase {
-        Phase::Free => answers::violated(n, r),
-        Phase::Next(_) => answers::violated(n, r),
-        Phase::Idles(_) => answers::violated(n, r),
-        Phase::Dropping => answers::moved(Event::Nothing, Phase::Dropping, r),
+        Phase::Free => packet_answers::violated(n, r),
+        Phase::Next(_) => packet_answers::violated(n, r),
+        Phase::Idles(_) => packet_answers::violated(n, r),
+        Phase::Dropping => packet_answers::moved(Event::Nothing, Phase::Dropping, r),
     }
 }
 

@@ -1,22 +1,12 @@
-// A symbol where a sequence is begun, after COM, and while dropping.
+// A symbol where a sequence is begun.
 use packet_rules::Due;
 use packet_rules::Event;
 use packet_rules::Kind;
 use packet_rules::Phase;
 use packet_rules::Reader;
 use packet_rules::Step;
-use packet_turns::answers;
-use packet_turns::unbegun;
 ghost use mathlib.Core.Path.{_≡_};
-ghost use Rattle.packet_rules.specs.Violations.{rightCrc};
-ghost use Rattle.packet_sequences.specs.Sequences.{lmpOf, dueOf, seqOf, idleOf, dropOf};
-
-fn is_right_crc(register: u16, a: u8, b: u8) -> bool
-    ensures { λ r. ⌜ r ≡ rightCrc register a b ⌝ }
-{
-    let check = crc::check_bytes(register);
-    if a == check[0] { b == check[1] } else { false }
-}
+ghost use Rattle.packet_sequences.specs.Sequences.{lmpOf, lmpCheckOf, dueOf, seqOf};
 
 // What a right LMP gives: its first two bytes, type and parameter, and reserved and number.
 fn lmp(t: u8, n: u8) -> Event
@@ -39,42 +29,37 @@ fn lmp(t: u8, n: u8) -> Event
     }
 }
 
+// An LMP's check byte, b.
+fn lmp_check(r: Reader, t: u8, n: u8, b: u8) -> Step
+    ensures { λ s. ⌜ s ≡ lmpCheckOf t n b r ⌝ }
+{
+    if b == t ^ n {
+        packet_answers::moved(lmp(t, n), Phase::Free, r)
+    } else {
+        packet_answers::moved(Event::Violation(7), Phase::Free, r)
+    }
+}
+
 fn due_byte(r: Reader, due: Due, b: u8) -> Step
     ensures { λ s. ⌜ s ≡ dueOf due b r ⌝ }
 {
-    let d = r.packet;
-    let p = r.priority;
     match due {
-        Due::Channel => answers::started_data(b, r),
-        Due::Opening => answers::started_priority(b, r),
-        Due::Closing(bad) => {
-            if b == packet_state::opening_byte(d, p) {
-                answers::moved(Event::Nothing, Phase::Next(Due::FirstCrc(bad)), r)
-            } else {
-                answers::violated(5, r)
-            }
-        }
-        Due::FirstCrc(bad) => answers::moved(
+        Due::Channel => packet_answers::started_data(b, r),
+        Due::Opening => packet_answers::started_priority(b, r),
+        Due::Closing(bad) => packet_ends::closing_byte(r, bad, b),
+        Due::FirstCrc(bad) => packet_answers::moved(
             Event::Nothing,
             Phase::Next(Due::SecondCrc(bad, b)),
             r,
         ),
-        Due::SecondCrc(bad, a) => {
-            if is_right_crc(packet_state::register_in(d, p), a, b) {
-                answers::closed(Event::End { bad }, r, p)
-            } else {
-                answers::closed(Event::Violation(6), r, p)
-            }
-        }
-        Due::LmpType => answers::moved(Event::Nothing, Phase::Next(Due::LmpNumber(b)), r),
-        Due::LmpNumber(t) => answers::moved(Event::Nothing, Phase::Next(Due::LmpCheck(t, b)), r),
-        Due::LmpCheck(t, n) => {
-            if b == t ^ n {
-                answers::moved(lmp(t, n), Phase::Free, r)
-            } else {
-                answers::moved(Event::Violation(7), Phase::Free, r)
-            }
-        }
+        Due::SecondCrc(bad, a) => packet_ends::second_crc(r, bad, a, b),
+        Due::LmpType => packet_answers::moved(Event::Nothing, Phase::Next(Due::LmpNumber(b)), r),
+        Due::LmpNumber(t) => packet_answers::moved(
+            Event::Nothing,
+            Phase::Next(Due::LmpCheck(t, b)),
+            r,
+        ),
+        Due::LmpCheck(t, n) => lmp_check(r, t, n, b),
     }
 }
 
@@ -83,47 +68,11 @@ pub fn in_sequence(r: Reader, due: Due, k: Kind) -> Step
 {
     match k {
         Kind::Data(b) => due_byte(r, due, b),
-        Kind::Idl => answers::violated(4, r),
-        Kind::Com => answers::violated(4, r),
-        Kind::Opens(_) => answers::violated(4, r),
-        Kind::Closes(_) => answers::violated(4, r),
-        Kind::NoPlace => answers::violated(4, r),
-        Kind::Unsupported => answers::violated(3, r),
-    }
-}
-
-// After COM, n IDL are due.
-pub fn in_idles(r: Reader, n: u8, k: Kind) -> Step
-    ensures { λ s. ⌜ s ≡ idleOf n k r ⌝ }
-{
-    match k {
-        Kind::Data(_) => answers::violated(4, r),
-        Kind::Idl => {
-            if n <= 1 {
-                answers::moved(Event::Nothing, Phase::Free, r)
-            } else {
-                answers::moved(Event::Nothing, Phase::Idles(n - 1), r)
-            }
-        }
-        Kind::Com => answers::violated(4, r),
-        Kind::Opens(_) => answers::violated(4, r),
-        Kind::Closes(_) => answers::violated(4, r),
-        Kind::NoPlace => answers::violated(4, r),
-        Kind::Unsupported => answers::violated(3, r),
-    }
-}
-
-// Only a symbol that opens is seen.
-pub fn dropping(r: Reader, k: Kind) -> Step
-    ensures { λ s. ⌜ s ≡ dropOf k r ⌝ }
-{
-    match k {
-        Kind::Data(_) => answers::moved(Event::Nothing, Phase::Dropping, r),
-        Kind::Idl => answers::moved(Event::Nothing, Phase::Dropping, r),
-        Kind::Com => answers::moved(Event::Nothing, Phase::Dropping, r),
-        Kind::Opens(o) => answers::moved(Event::Nothing, Phase::Next(unbegun::due_after(o)), r),
-        Kind::Closes(_) => answers::moved(Event::Nothing, Phase::Dropping, r),
-        Kind::NoPlace => answers::moved(Event::Nothing, Phase::Dropping, r),
-        Kind::Unsupported => answers::moved(Event::Nothing, Phase::Dropping, r),
+        Kind::Idl => packet_answers::violated(4, r),
+        Kind::Com => packet_answers::violated(4, r),
+        Kind::Opens(_) => packet_answers::violated(4, r),
+        Kind::Closes(_) => packet_answers::violated(4, r),
+        Kind::NoPlace => packet_answers::violated(4, r),
+        Kind::Unsupported => packet_answers::violated(3, r),
     }
 }

@@ -1,4 +1,4 @@
-// What is open in a state, and the state's written rule.
+// The state's written rule.
 use packet_rules::DataPacket;
 use packet_rules::Due;
 use packet_rules::Phase;
@@ -7,65 +7,7 @@ use packet_rules::Reader;
 ghost use mathlib.Core.Path.{_≡_};
 ghost use lib.Dec.{eqb};
 ghost use Rattle.crc.specs.Crc16.{crcStart};
-ghost use Rattle.packet_rules.specs.State.{noPriority, outside, hasByte, openingByte, registerIn};
 ghost use Rattle.packet_rules.specs.State.{dataRule, priorityRule, dueRule, phaseRule, wellFormed};
-
-pub fn is_outside(d: DataPacket, p: PriorityPacket) -> bool
-    ensures { λ r. ⌜ r ≡ outside d p ⌝ }
-{
-    match p {
-        PriorityPacket::InPriority { .. } => false,
-        PriorityPacket::NoPriority => match d {
-            DataPacket::InData { .. } => false,
-            DataPacket::NoData => true,
-        },
-    }
-}
-
-pub fn has_no_priority(p: PriorityPacket) -> bool
-    ensures { λ r. ⌜ r ≡ noPriority p ⌝ }
-{
-    match p {
-        PriorityPacket::InPriority { .. } => false,
-        PriorityPacket::NoPriority => true,
-    }
-}
-
-pub fn has_byte(d: DataPacket, p: PriorityPacket) -> bool
-    ensures { λ r. ⌜ r ≡ hasByte d p ⌝ }
-{
-    match p {
-        PriorityPacket::InPriority { count, .. } => 0 < count,
-        PriorityPacket::NoPriority => match d {
-            DataPacket::InData { begun, .. } => begun,
-            DataPacket::NoData => false,
-        },
-    }
-}
-
-pub fn opening_byte(d: DataPacket, p: PriorityPacket) -> u8
-    ensures { λ r. ⌜ r ≡ openingByte d p ⌝ }
-{
-    match p {
-        PriorityPacket::InPriority { opening, .. } => opening,
-        PriorityPacket::NoPriority => match d {
-            DataPacket::InData { channel, .. } => channel,
-            DataPacket::NoData => 0,
-        },
-    }
-}
-
-pub fn register_in(d: DataPacket, p: PriorityPacket) -> u16
-    ensures { λ r. ⌜ r ≡ registerIn d p ⌝ }
-{
-    match p {
-        PriorityPacket::InPriority { register, .. } => register,
-        PriorityPacket::NoPriority => match d {
-            DataPacket::InData { register, .. } => register,
-            DataPacket::NoData => crc::start(),
-        },
-    }
-}
 
 fn is_start(register: u16) -> bool
     ensures { λ r. ⌜ r ≡ eqb register crcStart ⌝ }
@@ -109,11 +51,11 @@ fn due_rule(d: DataPacket, p: PriorityPacket, due: Due) -> bool
     ensures { λ r. ⌜ r ≡ dueRule d p due ⌝ }
 {
     match due {
-        Due::Channel => is_outside(d, p),
-        Due::Opening => has_no_priority(p),
-        Due::Closing(_) => has_byte(d, p),
-        Due::FirstCrc(_) => has_byte(d, p),
-        Due::SecondCrc(_, _) => has_byte(d, p),
+        Due::Channel => packet_open::is_outside(d, p),
+        Due::Opening => packet_open::has_no_priority(p),
+        Due::Closing(_) => packet_open::has_byte(d, p),
+        Due::FirstCrc(_) => packet_open::has_byte(d, p),
+        Due::SecondCrc(_, _) => packet_open::has_byte(d, p),
         Due::LmpType => true,
         Due::LmpNumber(_) => true,
         Due::LmpCheck(_, _) => true,
@@ -127,7 +69,7 @@ fn phase_rule(d: DataPacket, p: PriorityPacket, phase: Phase) -> bool
         Phase::Free => true,
         Phase::Next(due) => due_rule(d, p, due),
         Phase::Idles(n) => if 0 < n { n <= 3 } else { false },
-        Phase::Dropping => is_outside(d, p),
+        Phase::Dropping => packet_open::is_outside(d, p),
     }
 }
 
