@@ -1,15 +1,14 @@
--- The next piece by its cases: a fresh listing, each refusal, and a listing that goes on.
+-- The next piece by its cases: a fresh listing, one that goes on, and one that has ended.
 -- Assumes nothing.
 use mathlib.Core.Path.{_≡_, refl, sym, ap, ap₂, _∙_, subst}
 use mathlib.Core.Bool.{true, false}
 use mathlib.Core.List.{List, _++_}
 use mathlib.Core.Option.{Option, none, some}
-use Prim.Native.Nat.{ℕ, _≤_, _<_}
+use Prim.Native.Nat.{ℕ}
 use native.Mathlib.Omega.{arith}
 use lib.IntN.{negsuc}
 use lib.ListN.{length, drop}
-use borrow.Author.Tests.{lt-leb}
-use Rattle.capture_rules.specs.Capture.{characterCount, legal}
+use Rattle.capture_rules.specs.Capture.{legal}
 use Rattle.packet_rules.specs.declared.Reader.{Reader}
 use Rattle.packet_rules.specs.declared.FreshReader.{FreshReader}
 use Rattle.packet_rules.specs.declared.FreshReader.the-variants.{Ready, Refused as NotMade}
@@ -19,13 +18,11 @@ use Rattle.packet_rules.specs.State.{fresh, freshReader}
 use Rattle.listing_rules.specs.declared.Reached.{Reached}
 use Rattle.listing_rules.specs.declared.Listing.{Listing}
 use Rattle.listing_rules.specs.declared.Listing.the-variants.{Fresh, Going, Ended}
-use Rattle.listing_rules.specs.declared.Piece.the-variants.{Refused}
-use Rattle.listing_rules.specs.declared.Next.{Next}
 use Rattle.listing_rules.specs.Lines.{header, refusedLine}
-use Rattle.listing_rules.specs.Pieces.{Said, says, wrote, wroteNothing, refused, keepsRule, pieceOf, listingAfter, nextChecks, doneSays, nextSays, nextLeaves}
-use Rattle.listing_rules.proofs.Whole.{not-refused, leaves-piece, going-free}
-use Rattle.listing.specs.Writing.{Wrote}
-use Rattle.listing.proofs.Written.{wrote-whole}
+use Rattle.listing_rules.specs.Pieces.{Said, wrote, wroteNothing, pieceOf, listingAfter, nextChecks, doneSays, nextSays, nextLeaves}
+use Rattle.listing_rules.proofs.Whole.{not-refused, leaves-piece}
+use Rattle.listing_text.specs.Writing.{Wrote}
+use Rattle.listing_text.proofs.Written.{wrote-whole}
 
 -- ---- the first piece
 
@@ -55,7 +52,8 @@ module _ (capture old new : List ℕ) (n : ℕ) where
     count (some q) = 1
 
     pub header-is : (r : Reader) → f ≡ Ready r → legal capture ≡ true → Wrote 0 header old new n
-        → (wrote n (Going (record { place = 0; events = 0; disparity = negsuc 0; reader = r })) ≡ doneSays capture Fresh) × (new ≡ pieceOf capture Fresh ++ drop (length (pieceOf capture Fresh)) old)
+        → (wrote n (Going (record { place = 0; events = 0; disparity = negsuc 0; reader = r })) ≡ doneSays capture Fresh)
+        × (new ≡ pieceOf capture Fresh ++ drop (length (pieceOf capture Fresh)) old)
     unfolding pieceOf listingAfter
     header-is r is ok w =
         let same : r ≡ fresh 8 = ap (λ (m : Made). readerIn r (m .reader)) (sym (ap freshSays is) ∙ fresh-made) in
@@ -83,33 +81,6 @@ pub ended-comes : (capture : List ℕ) (l : Listing) (old : List ℕ) → l ≡ 
 unfolding nextSays nextLeaves nextChecks pieceOf
 ended-comes capture l old is = subst (λ (x : Listing). Comes capture x (wroteNothing Ended) old old) (sym is) (refl, refl)
 
-module _ (capture : List ℕ) (l : Listing) (p : Reached) (is : l ≡ Going p) (old : List ℕ) where
-  refused-comes : (a : Next) (n : ℕ) → a ≡ record { piece = Refused n; listing = Going p } → nextSays capture (Going p) ≡ refused (Going p) n
-      → nextLeaves capture (Going p) old ≡ old
-      → Comes capture l (says a) old old
-  refused-comes a n e f g =
-      subst (λ (x : Listing). Comes capture x (says a) old old) (sym is)
-      (ap says e ∙ sym f, sym g)
-
-  pub bad-capture : (a : Next) → a ≡ record { piece = Refused 8; listing = Going p } → legal capture ≡ false → Comes capture l (says a) old old
-  unfolding nextSays nextLeaves nextChecks
-  bad-capture a e out = refused-comes a 8 e (simp out) (simp out)
-
-  module _ (ok : legal capture ≡ true) where
-    pub broken-rule : (a : Next) → a ≡ record { piece = Refused 1; listing = Going p } → keepsRule p ≡ false → Comes capture l (says a) old old
-    unfolding nextSays nextLeaves nextChecks
-    broken-rule a e out = refused-comes a 1 e (simp (ok, out)) (simp (ok, out))
-
-    module _ (k : keepsRule p ≡ true) where
-      pub past-the-end : (a : Next) → a ≡ record { piece = Refused 1; listing = Going p } → characterCount (length capture) < p .place → Comes capture l (says a) old old
-      unfolding nextSays nextLeaves nextChecks
-      past-the-end a e h =
-          let out = lt-leb (p .place) (characterCount (length capture)) h in
-          refused-comes a 1 e (simp (ok, k, out)) (simp (ok, k, out))
-
-      pub later-comes : (said : Said) (new : List ℕ) → p .place ≤ characterCount (length capture) → said ≡ doneSays capture (Going p)
-          → new ≡ pieceOf capture (Going p) ++ drop (length (pieceOf capture (Going p))) old → Comes capture l said old new
-      later-comes said new h a b =
-          let free = going-free capture p ok k h in
-          subst (λ (x : Listing). Comes capture x said old new) (sym is)
-          (a ∙ sym (not-refused capture (Going p) free), b ∙ sym (leaves-piece capture (Going p) free old))
+pub later-comes : (capture : List ℕ) (l : Listing) (p : Reached) (said : Said) (old new : List ℕ) → l ≡ Going p
+    → Comes capture (Going p) said old new → Comes capture l said old new
+later-comes capture l p said old new is c = subst (λ (x : Listing). Comes capture x said old new) (sym is) c
