@@ -36,7 +36,7 @@ fn read_one(entries: &[u16; 1024], capture: &[u8], from: Place, events: &mut [u3
 {
     let i = from.at;
     let before = from.reader;
-    let character = characters::ten_bits(capture, i);
+    let character = characters::character_in(capture, i);
     let result = characters::look_up(entries, character, from.plus);
     let s = turns::turn(before, result);
     let event = s.event;

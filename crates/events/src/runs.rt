@@ -54,7 +54,7 @@ fn take_bytes(
     let mut register = from.register;
     let mut at = from.at;
     while at < until {
-        let character = characters::ten_bits(capture, at);
+        let character = characters::character_in(capture, at);
         let result = characters::look_up(entries, character, plus);
         if 256 <= result % 2048 {
             return Taken { at, plus, register };

@@ -19,15 +19,15 @@ use Rattle.events_rules.proofs.Runs.{disparity-is, ran-one}
 use Rattle.events.proofs.read_one.Statement.{statement}
 use Rattle.events.proofs.read_one.Tie as tie
 
-ten-bits-requires : tie.Need-ten-bits-requires
-ten-bits-requires c κs = search needs
+character-in-requires : tie.Need-character-in-requires
+character-in-requires c κs = search needs
 
 look-up-requires : tie.Need-look-up-requires
 look-up-requires c κs =
-    let ten = c .ten-bits in
+    let character = c .character-in in
     let s = c .before .before .before .before in
     let low = getD-below 1024 (charactersOf (s .args .capture .now)) (omega arith) (characters-below (s .args .capture .now)) (s .args .from .at) in
-    (s .pre .0, subst (λ (n : ℕ). n < 1024) (sym (ten .ensures)) low)
+    (s .pre .0, subst (λ (n : ℕ). n < 1024) (sym (character .ensures)) low)
 
 turn-requires : tie.Need-turn-requires
 turn-requires c κs = search needs
@@ -52,7 +52,7 @@ returns c =
     let number = c .event-number in
     let turned = c .before .before .turn in
     let found = c .before .before .before .look-up in
-    let ten = c .before .before .before .before .ten-bits in
+    let character = c .before .before .before .before .character-in in
     let s = c .before .before .before .before .before .before .before .before in
     let a = s .args in
     let cs = charactersOf (a .capture .now) in
@@ -64,7 +64,7 @@ returns c =
     let h = s .pre .2 in
     let f = s .pre .3 in
     let is : found .result ≡ packed (reading (getD cs i 0) (disparityOf p)) =
-    found .ensures ∙ ap (λ (k : ℕ). packed (reading k (disparityOf p))) (ten .ensures) in
+    found .ensures ∙ ap (λ (k : ℕ). packed (reading k (disparityOf p))) (character .ensures) in
     let said =
     turned .ensures ∙ ap (stepOf r) (ap unpacked is ∙ unpacked-reading (getD cs i 0) (disparityOf p) (omega arith) (disparity-is p)) in
     let event = number .ensures ∙ ap (λ (x : Answer). packedEvent (x .said)) said in
@@ -78,5 +78,5 @@ pub read-one-spec : {M : Type 1} → statement M
 read-one-spec =
     tie.close
     (tie.spec
-    ten-bits-requires look-up-requires turn-requires event-number-requires mul-events slice-write-events add-t13 same-length
+    character-in-requires look-up-requires turn-requires event-number-requires mul-events slice-write-events add-t13 same-length
     returns)

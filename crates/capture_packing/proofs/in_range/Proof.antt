@@ -9,9 +9,9 @@ use lib.Dec.{ltb}
 use lib.ListN.{length, drop, getD, drop-of-length-le}
 use Rattle.laws.specs.Groups.{allBelow}
 use Rattle.laws.proofs.Groups.{all-from}
-use Rattle.capture.proofs.Facts.{and-and}
-use Rattle.capture.proofs.in_range.Statement.{statement}
-use Rattle.capture.proofs.in_range.Tie as tie
+use Rattle.capture_packing.proofs.Facts.{and-and}
+use Rattle.capture_packing.proofs.in_range.Statement.{statement}
+use Rattle.capture_packing.proofs.in_range.Tie as tie
 
 abbrev Inv-loop : tie.InvT-loop
 Inv-loop characters good₀ i₀ good i = (i ≤ length characters) × ((good && allBelow 1024 (drop i characters)) ≡ allBelow 1024 characters)

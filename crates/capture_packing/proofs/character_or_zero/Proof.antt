@@ -3,8 +3,8 @@
 use borrow.Author.Needs.{needs}
 use lib.ListN.{List·getD-eq-default}
 use mathlib.Core.Path.{sym}
-use Rattle.capture.proofs.character_or_zero.Statement.{statement}
-use Rattle.capture.proofs.character_or_zero.Tie as tie
+use Rattle.capture_packing.proofs.character_or_zero.Statement.{statement}
+use Rattle.capture_packing.proofs.character_or_zero.Tie as tie
 
 mul-wide16 : tie.Need-mul-wide16
 mul-wide16 c = search needs

@@ -3,14 +3,15 @@
 use mathlib.Core.Path.{_≡_, refl, ap, sym, _∙_}
 use mathlib.Core.List.{List, _++_}
 use Prim.Native.Nat.{ℕ, _*_, _/_, _≤_, _-_}
+use borrow.Author.Needs.{needs}
 use native.Mathlib.Omega.{arith}
 use lib.ListN.{length, take, drop, set, getD, length-set}
 use Rattle.laws.proofs.Stores.{store-next}
 use Rattle.capture_rules.specs.Capture.{charactersOf}
 use Rattle.capture_rules.proofs.Packing.{characters-length}
-use Rattle.capture.proofs.Facts.{past-front, all-stored}
-use Rattle.capture.proofs.store_characters.Statement.{statement}
-use Rattle.capture.proofs.store_characters.Tie as tie
+use Rattle.capture_unpacking.proofs.Facts.{past-front, all-stored}
+use Rattle.capture_unpacking.proofs.store_characters.Statement.{statement}
+use Rattle.capture_unpacking.proofs.store_characters.Tie as tie
 
 abbrev Inv-loop : tie.InvT-loop
 Inv-loop capture n out₀ fours i₀ out i = (i ≤ n) × (out ≡ take i (charactersOf capture) ++ drop i out₀) × (length out ≡ length out₀)
@@ -33,7 +34,7 @@ loop-holds c = let s = c .before .before .before .before .before .before in
     (omega arith, stored ∙ ap (λ (l : List ℕ). take i result ++ l) (sym (past-front result (s .args .out .now) i i _ (omega arith) (omega arith) stored)), refl)
 
 character-of-requires : tie.Need-character-of-requires Inv-loop μ-loop
-character-of-requires c κs = let s = c .before .before .before .before .before .before .before .before in (s .pre .0, omega arith)
+character-of-requires c κs = search needs
 
 mul-out : tie.Need-mul-out Inv-loop μ-loop
 mul-out c = omega arith

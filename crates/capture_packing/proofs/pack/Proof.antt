@@ -5,8 +5,8 @@ use borrow.Author.Tests.{not-true, not-false}
 use mathlib.Core.Path.{refl, sym, _∙_}
 use native.Mathlib.Omega.{arith}
 use Rattle.capture_rules.proofs.Laws.{pack-too-many, pack-out-of-range, pack-short-output, pack-done}
-use Rattle.capture.proofs.pack.Statement.{statement}
-use Rattle.capture.proofs.pack.Tie as tie
+use Rattle.capture_packing.proofs.pack.Statement.{statement}
+use Rattle.capture_packing.proofs.pack.Tie as tie
 
 returns : tie.Need-returns
 returns c = let a = c .before .before .before .args in

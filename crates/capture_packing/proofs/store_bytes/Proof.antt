@@ -8,8 +8,8 @@ use lib.ListN.{length, take, drop, set, getD, length-set}
 use Rattle.laws.proofs.Stores.{store-next, stored-all}
 use Rattle.capture_rules.specs.Capture.{packOf}
 use Rattle.capture_rules.proofs.Packing.{pack-length}
-use Rattle.capture.proofs.store_bytes.Statement.{statement}
-use Rattle.capture.proofs.store_bytes.Tie as tie
+use Rattle.capture_packing.proofs.store_bytes.Statement.{statement}
+use Rattle.capture_packing.proofs.store_bytes.Tie as tie
 
 abbrev Inv-loop : tie.InvT-loop
 Inv-loop characters n out₀ k₀ out k = (k ≤ n) × (out ≡ take k (packOf characters) ++ drop k out₀) × (length out ≡ length out₀)

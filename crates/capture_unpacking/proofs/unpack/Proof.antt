@@ -7,8 +7,8 @@ use native.Mathlib.Omega.{arith}
 use Rattle.laws.proofs.Bools.{true-T}
 use Rattle.capture_rules.proofs.Laws.{unpack-illegal, unpack-short-output, unpack-done}
 use Rattle.capture_rules.proofs.Packing.{legal-size}
-use Rattle.capture.proofs.unpack.Statement.{statement}
-use Rattle.capture.proofs.unpack.Tie as tie
+use Rattle.capture_unpacking.proofs.unpack.Statement.{statement}
+use Rattle.capture_unpacking.proofs.unpack.Tie as tie
 
 is-legal-requires : tie.Need-is-legal-requires
 is-legal-requires c κs = search needs

@@ -7,8 +7,8 @@ use native.Mathlib.Omega.{arith}
 use Rattle.laws.proofs.Bools.{true-T}
 use Rattle.laws.proofs.Groups.{getD-below}
 use Rattle.capture_rules.proofs.Places.{byte-by-place}
-use Rattle.capture.proofs.byte_of.Statement.{statement}
-use Rattle.capture.proofs.byte_of.Tie as tie
+use Rattle.capture_packing.proofs.byte_of.Statement.{statement}
+use Rattle.capture_packing.proofs.byte_of.Tie as tie
 
 mul-i : tie.Need-mul-i
 mul-i c = search needs
