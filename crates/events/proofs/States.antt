@@ -6,7 +6,7 @@ use Prim.Native.Nat.{ℕ}
 use Rattle.packet_rules.specs.declared.DataPacket.{DataPacket}
 use Rattle.packet_rules.specs.declared.DataPacket.the-variants.{InData}
 use Rattle.packet_rules.specs.declared.PriorityPacket.{PriorityPacket}
-use Rattle.packet_rules.specs.declared.PriorityPacket.the-variants.{NoPriority, InPriority}
+use Rattle.packet_rules.specs.declared.PriorityPacket.the-variants.{NoPriority}
 use Rattle.packet_rules.specs.declared.Phase.{Phase}
 use Rattle.packet_rules.specs.declared.Phase.the-variants.{Free}
 use Rattle.packet_rules.specs.declared.Reader.{Reader}

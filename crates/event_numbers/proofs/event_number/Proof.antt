@@ -1,10 +1,9 @@
 -- By the event.
 -- Assumes nothing.
-use mathlib.Core.Path.{_≡_, refl, ap, sym, _∙_}
 use Rattle.events_rules.specs.Numbers.{packedEvent}
 use borrow.Author.Needs.{needs}
-use Rattle.events.proofs.turns.event_number.Statement.{statement}
-use Rattle.events.proofs.turns.event_number.Tie as tie
+use Rattle.event_numbers.proofs.event_number.Statement.{statement}
+use Rattle.event_numbers.proofs.event_number.Tie as tie
 
 enum-told : tie.Need-enum-told
 enum-told c = search needs

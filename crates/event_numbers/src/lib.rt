@@ -1,22 +1,9 @@
-// One result given to the reader, and the event as a number.
+// An event as a number: the event's own, the segment number and the value.
 use packet_rules::Event;
-use packet_rules::Reader;
-use packet_rules::Step;
 ghost use mathlib.Core.Path.{_≡_};
-ghost use mathlib.Core.Bool.{true};
 ghost use Prim.Native.Nat.{_+_, _*_, _<_};
-ghost use Rattle.character_rules.specs.Results.{unpacked};
-ghost use Rattle.packet_rules.specs.Answers.{eventSays, stepSays};
-ghost use Rattle.packet_rules.specs.State.{wellFormed};
-ghost use Rattle.packet_rules.specs.Step.{stepOf};
+ghost use Rattle.packet_rules.specs.Answers.{eventSays};
 ghost use Rattle.events_rules.specs.Numbers.{markNumber, packedEvent};
-
-pub(crate) fn turn(reader: Reader, result: u16) -> Step
-    requires { ⌜ wellFormed reader ≡ true ⌝ }
-    ensures { λ s. ⌜ stepSays s ≡ stepOf reader (unpacked result) ⌝ }
-{
-    packet_reader::advance(reader, character_reader::unpack_result(result))
-}
 
 fn mark_number(mark: bool) -> u8
     ensures { λ r. ⌜ r ≡ markNumber mark ⌝ }
@@ -32,7 +19,7 @@ fn number_of(event: u32, segment: u8, value: u8) -> u32
     event * 65536 + segment as u32 * 256 + value as u32
 }
 
-pub(crate) fn event_number(e: Event) -> u32
+pub fn event_number(e: Event) -> u32
     ensures { λ r. ⌜ r ≡ packedEvent (eventSays e) ⌝ }
 {
     match e {
