@@ -122,13 +122,13 @@ fn place_case(s: &[u8], place: usize) {
     io::write_all(1, b"place");
     number(place as u64);
     io::write_all(1, b":");
-    answer(pane::place_in(s, place));
+    answer(pane_moves::place_in(s, place));
     io::write_all(1, b",");
     answer(capture::character_at(s, place));
     io::write_all(1, b", forward");
-    moved(pane::forward_from(s, place));
+    moved(pane_moves::forward_from(s, place));
     io::write_all(1, b", back");
-    moved(pane::back_from(s, place));
+    moved(pane_moves::back_from(s, place));
     end();
 }
 

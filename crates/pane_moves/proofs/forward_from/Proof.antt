@@ -7,8 +7,8 @@ use native.Mathlib.Omega.{arith}
 use Rattle.laws.proofs.Bools.{true-T}
 use Rattle.capture_rules.proofs.Packing.{legal-size}
 use Rattle.capture_rules.proofs.Panes.{forward-illegal, forward-outside, forward-moves, forward-at-end}
-use Rattle.pane.proofs.forward_from.Statement.{statement}
-use Rattle.pane.proofs.forward_from.Tie as tie
+use Rattle.pane_moves.proofs.forward_from.Statement.{statement}
+use Rattle.pane_moves.proofs.forward_from.Tie as tie
 
 is-legal-requires : tie.Need-is-legal-requires
 is-legal-requires c κs = search needs

@@ -7,8 +7,8 @@ use native.Mathlib.Omega.{arith}
 use Rattle.laws.proofs.Bools.{true-T}
 use Rattle.capture_rules.proofs.Packing.{legal-size}
 use Rattle.capture_rules.proofs.Panes.{back-illegal, back-outside, back-moves, back-at-start}
-use Rattle.pane.proofs.back_from.Statement.{statement}
-use Rattle.pane.proofs.back_from.Tie as tie
+use Rattle.pane_moves.proofs.back_from.Statement.{statement}
+use Rattle.pane_moves.proofs.back_from.Tie as tie
 
 is-legal-requires : tie.Need-is-legal-requires
 is-legal-requires c κs = search needs

@@ -7,8 +7,8 @@ use native.Mathlib.Omega.{arith}
 use Rattle.laws.proofs.Bools.{true-T}
 use Rattle.capture_rules.proofs.Packing.{legal-size}
 use Rattle.capture_rules.proofs.Panes.{place-illegal, place-outside, place-inside}
-use Rattle.pane.proofs.place_in.Statement.{statement}
-use Rattle.pane.proofs.place_in.Tie as tie
+use Rattle.pane_moves.proofs.place_in.Statement.{statement}
+use Rattle.pane_moves.proofs.place_in.Tie as tie
 
 is-legal-requires : tie.Need-is-legal-requires
 is-legal-requires c κs = search needs
