@@ -55,7 +55,7 @@ fn pack_case(cs: &[u16], out: &mut [u8]) {
     io::write_all(1, b" into");
     number(out.len() as u64);
     io::write_all(1, b":");
-    answer(capture::pack(cs, out));
+    answer(capture_packing::pack(cs, out));
     io::write_all(1, b" leaves");
     bytes(out);
     end();
@@ -67,7 +67,7 @@ fn unpack_case(s: &[u8], out: &mut [u16]) {
     io::write_all(1, b" into");
     number(out.len() as u64);
     io::write_all(1, b":");
-    answer(capture::unpack(s, out));
+    answer(capture_unpacking::unpack(s, out));
     io::write_all(1, b" leaves");
     characters(out);
     end();
@@ -122,13 +122,13 @@ fn place_case(s: &[u8], place: usize) {
     io::write_all(1, b"place");
     number(place as u64);
     io::write_all(1, b":");
-    answer(pane::place_in(s, place));
+    answer(pane_moves::place_in(s, place));
     io::write_all(1, b",");
     answer(capture::character_at(s, place));
     io::write_all(1, b", forward");
-    moved(pane::forward_from(s, place));
+    moved(pane_moves::forward_from(s, place));
     io::write_all(1, b", back");
-    moved(pane::back_from(s, place));
+    moved(pane_moves::back_from(s, place));
     end();
 }
 
@@ -150,7 +150,7 @@ fn unpack_refusal_cases() {
 
 fn pack_into(cs: &[u16], out: &mut [u8], room: usize) {
     if room <= out.len() {
-        answer(capture::pack(cs, &mut out[..room]));
+        answer(capture_packing::pack(cs, &mut out[..room]));
     }
 }
 

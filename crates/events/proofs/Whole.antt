@@ -3,35 +3,34 @@
 use mathlib.Core.Path.{_≡_, refl, sym, _∙_, ap}
 use mathlib.Core.Bool.{Bool, true, false}
 use mathlib.Core.List.{List, _++_}
-use Prim.Native.Nat.{ℕ, _≤_}
+use Prim.Native.Nat.{ℕ}
 use lib.IntN.{ℤ}
 use lib.ListN.{length, drop}
 use Rattle.laws.proofs.Bools.{true-T}
+use Rattle.refusal.specs.Order.{refusalOf}
 use Rattle.disparity.proofs.Signed.{again}
 use Rattle.character_rules.specs.Disparity.{isPlus, isDisparity, disparityOf}
 use Rattle.character_rules.specs.Results.{runClosing}
 use Rattle.character_rules.proofs.Disparities.{by-sign}
-use Rattle.capture_rules.specs.Capture.{characterCount, charactersOf, legal}
+use Rattle.capture_rules.specs.Capture.{characterCount, charactersOf}
 use Rattle.capture_rules.proofs.Packing.{characters-length}
 use Rattle.packet_rules.specs.declared.Reader.{Reader}
-use Rattle.packet_rules.specs.State.{wellFormed}
-use Rattle.events_rules.specs.declared.CaptureRead.{CaptureRead}
-use Rattle.events_rules.specs.Events.{eventsOf, readerAfter, captureRead, eventsLeft}
+use Rattle.events_rules.specs.Events.{eventsOf, readerAfter, captureChecks, captureRead, eventsLeft}
 use Rattle.events_rules.proofs.Runs.{Ran, all-ends, all-after, all-events}
-use Rattle.events_rules.proofs.Answers.{read-whole}
+use Rattle.events_rules.proofs.Answers.{read-passed, read-whole}
 
 again-of : (p : Bool) → again (disparityOf p) ≡ disparityOf p
 again-of true = refl
 again-of false = refl
 
-module _ (capture : List ℕ) (r : Reader) (d : ℤ) (old : List ℕ) (l : legal capture ≡ true) (h : wellFormed r ≡ true) (t : isDisparity d ≡ true)
-    (fits : characterCount (length capture) ≤ length old) (p : Bool) (hp : p ≡ isPlus d) (q : Bool) (s : Reader) (new : List ℕ)
+module _ (capture : List ℕ) (r : Reader) (d : ℤ) (old : List ℕ) (n : ℕ) (given : n ≡ refusalOf (captureChecks capture r d (length old))) (none : n ≡ 0)
+    (p : Bool) (hp : p ≡ isPlus d) (q : Bool) (s : Reader) (new : List ℕ)
     (ran : Ran (charactersOf capture) 0 p r old (characterCount (length capture)) q s new) (e : ℤ) (he : e ≡ disparityOf q) where
   all : characterCount (length capture) ≡ length (charactersOf capture)
   all = sym (characters-length capture)
 
   start : disparityOf p ≡ d
-  start = ap disparityOf hp ∙ by-sign d (true-T (isDisparity d) t)
+  start = ap disparityOf hp ∙ by-sign d (true-T (isDisparity d) (read-passed capture r d old n given none .signed))
 
   closes : again e ≡ runClosing (charactersOf capture) d
   closes =
@@ -51,7 +50,7 @@ module _ (capture : List ℕ) (r : Reader) (d : ℤ) (old : List ℕ) (l : legal
   pub is-read : (record { refusal = 0; count = characterCount (length capture); disparity = again e; reader = s } ≡ captureRead capture r d (length old))
       × (new ≡ eventsLeft capture r d old)
   is-read =
-      let w = read-whole capture r d old l h t fits in (
+      let w = read-whole capture r d old n given none in (
         (λ i. record { refusal = 0; count = characterCount (length capture); disparity = closes i; reader = after i }) ∙ w .answers,
         stored ∙ w .leaves,
       )

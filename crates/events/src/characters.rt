@@ -9,20 +9,13 @@ ghost use Rattle.character_rules.specs.Reading.{reading};
 ghost use Rattle.character_rules.specs.Results.{packed};
 ghost use Rattle.capture_rules.specs.Capture.{characterCount, charactersOf};
 
-fn wide(x: u8) -> usize
-    ensures { λ r. ⌜ r ≡ x ⌝ }
-{
-    x as usize
-}
-
 // The ten bits from bit 10 i on, which lie in two bytes.
-pub(crate) fn ten_bits(capture: &[u8], i: usize) -> usize
+pub(crate) fn character_in(capture: &[u8], i: usize) -> usize
     requires { ⌜ (length (now capture) ≤ 65535) × (i < characterCount (length (now capture))) ⌝ }
     ensures { λ r. ⌜ r ≡ getD (charactersOf (now (capture .entry))) i 0 ⌝ }
 {
     let k = 10 * i / 8;
-    let two = wide(capture[k]) * 256 + wide(capture[k + 1]);
-    (two >> (6 - 10 * i % 8)) % 1024
+    capture::ten_bits(capture[k], capture[k + 1], (6 - 10 * i % 8) as u32) as usize
 }
 
 // The result that an entry holds for a disparity.

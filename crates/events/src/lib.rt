@@ -1,10 +1,8 @@
 // A whole capture read into events, one packed number a character, with the table taken once and the state's rule tested once.
 mod characters;
 mod runs;
-mod turns;
 
 use disparity::disparity_of;
-use disparity::is_disparity;
 use disparity::is_plus;
 use events_rules::CaptureRead;
 use packet_rules::Reader;
@@ -16,7 +14,7 @@ ghost use Rattle.character_table.specs.Table.{table};
 ghost use Rattle.crc.specs.Crc16.{entries as crcEntries};
 ghost use Rattle.capture_rules.specs.Capture.{characterCount, charactersOf};
 ghost use Rattle.packet_rules.specs.State.{wellFormed};
-ghost use Rattle.events_rules.specs.Events.{notReadCapture, captureRead, eventsLeft};
+ghost use Rattle.events_rules.specs.Events.{captureRead, eventsLeft};
 ghost use Rattle.events_rules.proofs.Runs.{Ran};
 
 // Where reading stands: the next character, whether the disparity is +1, and the reader's state.
@@ -36,12 +34,12 @@ fn read_one(entries: &[u16; 1024], capture: &[u8], from: Place, events: &mut [u3
 {
     let i = from.at;
     let before = from.reader;
-    let character = characters::ten_bits(capture, i);
+    let character = characters::character_in(capture, i);
     let result = characters::look_up(entries, character, from.plus);
-    let s = turns::turn(before, result);
+    let s = packet_reader::advance(before, character_reader::unpack_result(result));
     let event = s.event;
     let reader = s.reader;
-    events[i] = turns::event_number(event);
+    events[i] = event_numbers::event_number(event);
     Place {
         at: i + 1,
         plus: 2048 <= result,
@@ -91,17 +89,6 @@ fn read_each(capture: &[u8], plus: bool, reader: Reader, events: &mut [u32]) -> 
     p
 }
 
-fn not_read(refusal: u8, reader: Reader, disparity: i32) -> CaptureRead
-    ensures { λ r. ⌜ r ≡ notReadCapture reader disparity refusal ⌝ }
-{
-    CaptureRead {
-        refusal,
-        count: 0,
-        disparity,
-        reader,
-    }
-}
-
 // A capture read from a reader's state and a disparity: an event for each character into the front of `events`; or refusal 8, 1 or 6.
 pub fn read_capture(
     capture: &[u8],
@@ -112,24 +99,20 @@ pub fn read_capture(
     ensures { λ r. ⌜ (r ≡ captureRead (now (capture .entry)) reader disparity (length (now (events .entry))))
         × (now (events .exit) ≡ eventsLeft (now (capture .entry)) reader disparity (now (events .entry))) ⌝ }
 {
-    if !capture::is_legal(capture) {
-        return not_read(refusal::BAD_CAPTURE, reader, disparity);
-    }
-    if !packet_state::is_well_formed(reader) {
-        return not_read(refusal::OUT_OF_RANGE, reader, disparity);
-    }
-    if !is_disparity(disparity) {
-        return not_read(refusal::OUT_OF_RANGE, reader, disparity);
-    }
-    let n = 8 * capture.len() / 10;
-    if events.len() < n {
-        return not_read(refusal::SHORT_OUTPUT, reader, disparity);
+    let refusal = event_checks::refusal_of(capture, reader, disparity, events.len());
+    if refusal != 0 {
+        return CaptureRead {
+            refusal,
+            count: 0,
+            disparity,
+            reader,
+        };
     }
     let p = read_each(capture, is_plus(disparity), reader, events);
     let after = p.reader;
     CaptureRead {
         refusal: 0,
-        count: n,
+        count: 8 * capture.len() / 10,
         disparity: disparity_of(p.plus),
         reader: after,
     }

@@ -5,6 +5,7 @@ use packet_rules::DataPacket;
 use packet_rules::Phase;
 use packet_rules::PriorityPacket;
 use packet_rules::Reader;
+use packet_state::register_in;
 ghost use mathlib.Core.Path.{_≡_};
 ghost use mathlib.Core.Bool.{true};
 ghost use Prim.Native.Nat.{_+_, _≤_, _<_};
@@ -13,12 +14,8 @@ ghost use Rattle.character_table.specs.Table.{table};
 ghost use Rattle.crc.specs.Crc16.{crcByte, entries as crcEntries};
 ghost use Rattle.capture_rules.specs.Capture.{characterCount, charactersOf};
 ghost use Rattle.packet_rules.specs.State.{wellFormed};
-ghost use Rattle.packet_rules.proofs.Steps.{st};
-ghost use Rattle.packet_rules.specs.declared.DataPacket.the-variants.{InData as IsInData};
-ghost use Rattle.packet_rules.specs.declared.PriorityPacket.the-variants.{NoPriority as IsNoPriority, InPriority as IsInPriority};
-ghost use Rattle.packet_rules.specs.declared.Phase.the-variants.{Free as IsFree};
 ghost use Rattle.events_rules.proofs.Runs.{Ran};
-ghost use Rattle.events_rules.proofs.Feeding.{Fed};
+ghost use Rattle.events_rules.proofs.Feeding.{Fed, Takes, dataTo, priorityTo, countIn};
 
 // Where a run of bytes stands: the next character, whether the disparity is +1, and the packet's register.
 pub struct Taken {
@@ -54,7 +51,7 @@ fn take_bytes(
     let mut register = from.register;
     let mut at = from.at;
     while at < until {
-        let character = characters::ten_bits(capture, at);
+        let character = characters::character_in(capture, at);
         let result = characters::look_up(entries, character, plus);
         if 256 <= result % 2048 {
             return Taken { at, plus, register };
@@ -68,89 +65,75 @@ fn take_bytes(
     Taken { at, plus, register }
 }
 
-// In a data packet that has begun.
-fn data_bytes(
-    entries: &[u16; 1024],
-    crcs: &[u16; 256],
-    capture: &[u8],
-    size: u16,
-    channel: u8,
-    from: Taken,
-    until: usize,
-    events: &mut [u32],
-) -> Place
-    requires { ⌜ (now entries ≡ table) × (length (now capture) ≤ 65535) × (until ≤ characterCount (length (now capture)))
-        × (characterCount (length (now capture)) ≤ length (now events)) × (from .at ≤ until)
-        × (wellFormed (st size (IsInData channel true (from .register)) IsNoPriority IsFree) ≡ true) × (now crcs ≡ crcEntries) ⌝ }
-    ensures { λ r. ⌜ Ran (charactersOf (now (capture .entry))) (from .at) (from .plus) (st size (IsInData channel true (from .register)) IsNoPriority IsFree)
-        (now (events .entry)) (r .at) (r .plus) (r .reader) (now (events .exit)) ⌝ }
-{
-    let q = take_bytes(entries, crcs, capture, from, until, events);
-    let packet = DataPacket::InData {
-        channel,
-        begun: true,
-        register: q.register,
-    };
-    let reader = Reader {
-        size,
-        packet,
-        priority: PriorityPacket::NoPriority,
-        phase: Phase::Free,
-    };
-    Place {
-        at: q.at,
-        plus: q.plus,
-        reader,
-    }
-}
-
 fn lesser(a: usize, b: usize) -> usize
     ensures { λ r. ⌜ (r ≤ a) × (r ≤ b) ⌝ }
 {
     if a < b { a } else { b }
 }
 
-// In a priority packet: no more than S in all.
-fn priority_bytes(
-    entries: &[u16; 1024],
-    crcs: &[u16; 256],
-    capture: &[u8],
+// How many of so many bytes the open packet takes: a data packet that has begun all, a priority packet no more than S in all.
+fn room_in(
     size: u16,
     packet: DataPacket,
-    opening: u8,
-    count: u16,
-    from: Taken,
-    until: usize,
-    events: &mut [u32],
-) -> Place
-    requires { ⌜ (now entries ≡ table) × (length (now capture) ≤ 65535) × (until ≤ characterCount (length (now capture)))
-        × (characterCount (length (now capture)) ≤ length (now events)) × (from .at ≤ until) × (count ≤ size)
-        × (wellFormed (st size packet (IsInPriority opening count (from .register)) IsFree) ≡ true) × (now crcs ≡ crcEntries) ⌝ }
-    ensures { λ r. ⌜ Ran (charactersOf (now (capture .entry))) (from .at) (from .plus) (st size packet (IsInPriority opening count (from .register)) IsFree)
-        (now (events .entry)) (r .at) (r .plus) (r .reader) (now (events .exit)) ⌝ }
+    priority: PriorityPacket,
+    phase: Phase,
+    most: usize,
+) -> usize
+    requires { ⌜ most ≤ 65535 ⌝ }
+    ensures { λ n. ⌜ Takes size packet priority phase most n ⌝ }
 {
-    let start = from.at;
-    let room = (size - count) as usize;
-    let left = lesser(until - start, room);
-    let q = take_bytes(entries, crcs, capture, from, start + left, events);
-    let more = q.at - start;
-    let fed = more as u16;
-    let total = count + fed;
-    let priority = PriorityPacket::InPriority {
-        opening,
-        count: total,
-        register: q.register,
-    };
-    let reader = Reader {
-        size,
-        packet,
-        priority,
-        phase: Phase::Free,
-    };
-    Place {
-        at: q.at,
-        plus: q.plus,
-        reader,
+    match phase {
+        Phase::Free => match priority {
+            PriorityPacket::NoPriority => match packet {
+                DataPacket::NoData => 0,
+                DataPacket::InData { begun, .. } => {
+                    if begun {
+                        return most;
+                    }
+                    0
+                }
+            },
+            PriorityPacket::InPriority { count, .. } => {
+                if size < count {
+                    return 0;
+                }
+                lesser(most, (size - count) as usize)
+            }
+        },
+        Phase::Next(_) => 0,
+        Phase::Idles(_) => 0,
+        Phase::Dropping => 0,
+    }
+}
+
+// The packets after so many bytes, with that register.
+fn data_after(packet: DataPacket, priority: PriorityPacket, register: u16) -> DataPacket
+    ensures { λ r. ⌜ r ≡ dataTo packet priority register ⌝ }
+{
+    match priority {
+        PriorityPacket::InPriority { .. } => packet,
+        PriorityPacket::NoPriority => match packet {
+            DataPacket::InData { channel, begun, .. } => DataPacket::InData {
+                channel,
+                begun,
+                register,
+            },
+            DataPacket::NoData => DataPacket::NoData,
+        },
+    }
+}
+
+fn priority_after(priority: PriorityPacket, more: usize, register: u16) -> PriorityPacket
+    requires { ⌜ countIn priority + more ≤ 65535 ⌝ }
+    ensures { λ r. ⌜ r ≡ priorityTo priority more register ⌝ }
+{
+    match priority {
+        PriorityPacket::InPriority { opening, count, .. } => PriorityPacket::InPriority {
+            opening,
+            count: count + more as u16,
+            register,
+        },
+        PriorityPacket::NoPriority => PriorityPacket::NoPriority,
     }
 }
 
@@ -176,56 +159,23 @@ pub(crate) fn user_bytes(
     let packet = r.packet;
     let priority = r.priority;
     let phase = r.phase;
-    match phase {
-        Phase::Free => match priority {
-            PriorityPacket::NoPriority => match packet {
-                DataPacket::NoData => from,
-                DataPacket::InData {
-                    channel,
-                    begun,
-                    register,
-                } => {
-                    if begun {
-                        data_bytes(
-                            entries,
-                            crcs,
-                            capture,
-                            size,
-                            channel,
-                            Taken { at, plus, register },
-                            until,
-                            events,
-                        )
-                    } else {
-                        from
-                    }
-                }
-            },
-            PriorityPacket::InPriority {
-                opening,
-                count,
-                register,
-            } => {
-                if count <= size {
-                    priority_bytes(
-                        entries,
-                        crcs,
-                        capture,
-                        size,
-                        packet,
-                        opening,
-                        count,
-                        Taken { at, plus, register },
-                        until,
-                        events,
-                    )
-                } else {
-                    from
-                }
-            }
-        },
-        Phase::Next(_) => from,
-        Phase::Idles(_) => from,
-        Phase::Dropping => from,
+    let room = room_in(size, packet, priority, phase, until - at);
+    if room == 0 {
+        return from;
+    }
+    let register = register_in(packet, priority);
+    let start = Taken { at, plus, register };
+    let q = take_bytes(entries, crcs, capture, start, at + room, events);
+    let after = q.register;
+    let reader = Reader {
+        size,
+        packet: data_after(packet, priority, after),
+        priority: priority_after(priority, q.at - at, after),
+        phase,
+    };
+    Place {
+        at: q.at,
+        plus: q.plus,
+        reader,
     }
 }

@@ -1,12 +1,12 @@
 -- A run of user bytes: while a packet takes bytes, each clean data symbol is one event, one step of the CRC register and nothing else.
 -- Assumes nothing.
-use mathlib.Core.Path.{_≡_, refl, sym, _∙_, ap, subst}
-use mathlib.Core.Bool.{Bool, true, false}
+use mathlib.Core.Path.{_≡_, refl, sym, _∙_, ap, ap₂, subst}
+use mathlib.Core.Bool.{Bool, true}
 use mathlib.Core.List.{List}
 use Prim.Native.Nat.{ℕ, _+_, _-_, _%_, _≤_, _<_}
 use native.Mathlib.Omega.{arith}
 use borrow.Author.Tests.{lt-leb}
-use lib.Dec.{T, leb}
+use lib.Dec.{leb}
 use lib.IntN.{ℤ}
 use lib.ListN.{length, getD, set, length-set}
 use Rattle.symbol.specs.Symbols.{dataSymbol}
@@ -18,12 +18,14 @@ use Rattle.character_rules.proofs.Packed.{unpacked-data, unpacked-reading}
 use Rattle.character_rules.proofs.RunLaws.{disparity-is}
 use Rattle.crc.specs.Crc16.{crcByte}
 use Rattle.packet_rules.specs.declared.DataPacket.{DataPacket}
-use Rattle.packet_rules.specs.declared.DataPacket.the-variants.{InData}
+use Rattle.packet_rules.specs.declared.DataPacket.the-variants.{NoData, InData}
+use Rattle.packet_rules.specs.declared.PriorityPacket.{PriorityPacket}
 use Rattle.packet_rules.specs.declared.PriorityPacket.the-variants.{NoPriority, InPriority}
+use Rattle.packet_rules.specs.declared.Phase.{Phase}
 use Rattle.packet_rules.specs.declared.Phase.the-variants.{Free}
 use Rattle.packet_rules.specs.declared.Reader.{Reader}
 use Rattle.packet_rules.specs.Answers.{Answer, gaveByte}
-use Rattle.packet_rules.specs.State.{wellFormed}
+use Rattle.packet_rules.specs.State.{registerIn, wellFormed}
 use Rattle.packet_rules.specs.Step.{stepOf}
 use Rattle.packet_rules.proofs.Runs.{gives}
 use Rattle.packet_rules.proofs.Steps.{st, on-byte}
@@ -99,16 +101,64 @@ module _ (cs : List ℕ) (until i : ℕ) (p : Bool) (c : ℕ) (old : List ℕ) (
               (ap (λ (k : ℕ). f k (crcByte x (n % 256))) (sym one) ∙ sym (ap (λ (y : Answer). y .reader) said)));
         }
 
--- ---- the run in a packet of each kind
+-- ---- the run in the packet that takes it
 
-module _ (cs : List ℕ) (until i : ℕ) (p : Bool) (c : ℕ) (old : List ℕ) (j : ℕ) (q : Bool) (x : ℕ) (new : List ℕ) (fed : Fed cs until i p c old j q x new) where
-  pub data-ran : (s h : ℕ) → wellFormed (st s (InData h true c) NoPriority Free) ≡ true
-      → Ran cs i p (st s (InData h true c) NoPriority Free) old j q (st s (InData h true x) NoPriority Free) new
-  data-ran s h ok = fed .runs (inData s h) (data-feeds s h (until - i)) ok
+-- the packets after k bytes, with that register: the priority packet's where one is open, and else the data packet's
+abbrev pub dataTo : DataPacket → PriorityPacket → ℕ → DataPacket
+dataTo d (InPriority o n x) c = d
+dataTo (InData h begun x) NoPriority c = InData h begun c
+dataTo NoData NoPriority c = NoData
 
-  pub priority-ran : (s : ℕ) (d : DataPacket) (o n : ℕ) → n + (until - i) ≤ s → wellFormed (st s d (InPriority o n c) Free) ≡ true
-      → Ran cs i p (st s d (InPriority o n c) Free) old j q (st s d (InPriority o (n + (j - i)) x) Free) new
-  priority-ran s d o n room ok =
-      let none : n + 0 ≡ n = omega arith in
-      subst (λ (k : ℕ). Ran cs i p (st s d (InPriority o k c) Free) old j q (st s d (InPriority o (n + (j - i)) x) Free) new) none
-      (fed .runs (inPriority s d o n) (priority-feeds s d o n (until - i) room) (ap (λ (k : ℕ). wellFormed (st s d (InPriority o k c) Free)) none ∙ ok))
+abbrev pub priorityTo : PriorityPacket → ℕ → ℕ → PriorityPacket
+priorityTo (InPriority o n x) k c = InPriority o (n + k) c
+priorityTo NoPriority k c = NoPriority
+
+abbrev pub countIn : PriorityPacket → ℕ
+countIn (InPriority o n x) = n
+countIn NoPriority = 0
+
+abbrev pub fedTo : ℕ → DataPacket → PriorityPacket → Phase → ℕ → ℕ → Reader
+fedTo s d p w k c = st s (dataTo d p c) (priorityTo p k c) w
+
+-- n bytes, at most so many, are taken in such a state, and counted
+pub record Takes (s : ℕ) (d : DataPacket) (p : PriorityPacket) (w : Phase) (most n : ℕ) : Type 0 where
+  pub within : n ≤ most
+  pub counted : 0 < n → countIn p + n ≤ 65535
+  pub feeds : Feeds (fedTo s d p w) n
+
+module _ (s : ℕ) (d : DataPacket) (p : PriorityPacket) (w : Phase) (most : ℕ) where
+  pub takes-none : Takes s d p w most 0
+  takes-none = record { within = omega arith; counted = λ l. absurd (omega (arith, l)); feeds = λ k c b e l ok. absurd (omega (arith, l)) }
+
+  pub takes-data : (h : ℕ) (begun : Bool) (x : ℕ) → d ≡ InData h begun x → begun ≡ true → p ≡ NoPriority → w ≡ Free → most ≤ 65535 → Takes s d p w most most
+  takes-data h begun x e t f g m =
+      subst (λ (y : DataPacket). Takes s y p w most most) (sym (e ∙ ap (λ (y : Bool). InData h y x) t))
+      (subst (λ (y : PriorityPacket). Takes s (InData h true x) y w most most) (sym f)
+      (subst (λ (y : Phase). Takes s (InData h true x) NoPriority y most most) (sym g)
+      record { within = omega arith; counted = λ l. omega arith; feeds = data-feeds s h most }))
+
+  pub takes-priority : (o k x n : ℕ) → p ≡ InPriority o k x → w ≡ Free → n ≤ most → k + n ≤ s → s ≤ 65535 → Takes s d p w most n
+  takes-priority o k x n f g l room m =
+      subst (λ (y : PriorityPacket). Takes s d y w most n) (sym f)
+      (subst (λ (y : Phase). Takes s d (InPriority o k x) y most n) (sym g)
+      record { within = l; counted = λ z. omega arith; feeds = priority-feeds s d o k n room })
+
+-- before the first byte stands the state itself
+pub fed-start : (s : ℕ) (d : DataPacket) (p : PriorityPacket) (w : Phase) → fedTo s d p w 0 (registerIn d p) ≡ st s d p w
+fed-start s d (InPriority o n x) w =
+    let none : n + 0 ≡ n = omega arith in
+    ap (λ (k : ℕ). st s d (InPriority o k x) w) none
+fed-start s (InData h begun x) NoPriority w = refl
+fed-start s NoData NoPriority w = refl
+
+module _ (cs : List ℕ) (i m : ℕ) (p : Bool) (old : List ℕ) (j : ℕ) (q : Bool) (x : ℕ) (new : List ℕ) (s : ℕ) (d : DataPacket) (t : PriorityPacket) (w : Phase)
+    (c : ℕ) (register : c ≡ registerIn d t) (fed : Fed cs (i + m) i p c old j q x new) where
+  pub fed-ran : Feeds (fedTo s d t w) m → wellFormed (st s d t w) ≡ true
+      → (e : DataPacket) (u : PriorityPacket) → e ≡ dataTo d t x → u ≡ priorityTo t (j - i) x → Ran cs i p (st s d t w) old j q (st s e u w) new
+  fed-ran feeds ok e u de ue =
+      let all : m ≡ (i + m) - i = omega arith in
+      let start : fedTo s d t w 0 c ≡ st s d t w = ap (fedTo s d t w 0) register ∙ fed-start s d t w in
+      let after : fedTo s d t w (j - i) x ≡ st s e u w = ap₂ (λ (a : DataPacket) (b : PriorityPacket). st s a b w) (sym de) (sym ue) in
+      subst (λ (r : Reader). Ran cs i p (st s d t w) old j q r new) after
+      (subst (λ (r : Reader). Ran cs i p r old j q (fedTo s d t w (j - i) x) new) start
+      (fed .runs (fedTo s d t w) (subst (λ (k : ℕ). Feeds (fedTo s d t w) k) all feeds) (ap wellFormed start ∙ ok)))

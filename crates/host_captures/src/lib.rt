@@ -40,7 +40,7 @@ pub extern "C" fn buzz_pack(characters: &[u16], capture: &mut [u8], bytes: &mut 
     ensures { λ r. ⌜ (let after = packs (now (characters .entry)) (record { capture = now (capture .entry); bytes = now (bytes .entry) }) in
         (r ≡ after .refusal) × (now (capture .exit) ≡ after .lent .capture) × (now (bytes .exit) ≡ after .lent .bytes)) ⌝ }
 {
-    let answer = capture::pack(characters, capture);
+    let answer = capture_packing::pack(characters, capture);
     match answer {
         Answer::Number(packed) => {
             *bytes = packed;
@@ -56,7 +56,7 @@ pub extern "C" fn buzz_unpack(capture: &[u8], characters: &mut [u16], count: &mu
     ensures { λ r. ⌜ (let after = unpacks (now (capture .entry)) (record { characters = now (characters .entry); count = now (count .entry) }) in
         (r ≡ after .refusal) × (now (characters .exit) ≡ after .lent .characters) × (now (count .exit) ≡ after .lent .count)) ⌝ }
 {
-    let answer = capture::unpack(capture, characters);
+    let answer = capture_unpacking::unpack(capture, characters);
     match answer {
         Answer::Number(unpacked) => {
             *count = unpacked;

@@ -1,80 +1,17 @@
 // The service pane: a capture and a place in it. Each function over it takes it apart and leaves the work to one on the slice and the place.
 use capture::character_at;
-use capture::is_legal;
 use capture_rules::Answer;
 use capture_rules::Move;
+use pane_moves::back_from;
+use pane_moves::forward_from;
+use pane_moves::place_in;
 ghost use mathlib.Core.Path.{_≡_};
 ghost use Rattle.capture_rules.specs.Calls.{says, characterSays};
-ghost use Rattle.capture_rules.specs.Panes.{placeSays, stayed, forwardFrom, backFrom};
+ghost use Rattle.capture_rules.specs.Panes.{placeSays, forwardFrom, backFrom};
 
 pub struct Pane<'a> {
     pub capture: &'a [u8],
     pub place: usize,
-}
-
-// A place in a capture, where it is one.
-pub fn place_in(capture: &[u8], place: usize) -> Answer
-    ensures { λ r. ⌜ says r ≡ placeSays (now (capture .entry)) place ⌝ }
-{
-    if !is_legal(capture) {
-        return Answer::Refused(refusal::BAD_CAPTURE);
-    }
-    if place <= 8 * capture.len() / 10 {
-        return Answer::Number(place);
-    }
-    Answer::Refused(refusal::OUT_OF_RANGE)
-}
-
-// The pane is not moved.
-fn stay(place: usize, refusal: u8) -> Move
-    ensures { λ r. ⌜ r ≡ stayed place refusal ⌝ }
-{
-    Move {
-        place,
-        moved: false,
-        refusal,
-    }
-}
-
-// One character forward from a place.
-pub fn forward_from(capture: &[u8], place: usize) -> Move
-    ensures { λ r. ⌜ r ≡ forwardFrom (now (capture .entry)) place ⌝ }
-{
-    if !is_legal(capture) {
-        return stay(place, refusal::BAD_CAPTURE);
-    }
-    let n = 8 * capture.len() / 10;
-    if n < place {
-        return stay(place, refusal::OUT_OF_RANGE);
-    }
-    if place < n {
-        return Move {
-            place: place + 1,
-            moved: true,
-            refusal: 0,
-        };
-    }
-    stay(place, 0)
-}
-
-// One character back from a place.
-pub fn back_from(capture: &[u8], place: usize) -> Move
-    ensures { λ r. ⌜ r ≡ backFrom (now (capture .entry)) place ⌝ }
-{
-    if !is_legal(capture) {
-        return stay(place, refusal::BAD_CAPTURE);
-    }
-    if 8 * capture.len() / 10 < place {
-        return stay(place, refusal::OUT_OF_RANGE);
-    }
-    if 0 < place {
-        return Move {
-            place: place - 1,
-            moved: true,
-            refusal: 0,
-        };
-    }
-    stay(place, 0)
 }
 
 // A pane at the capture's start.

@@ -21,7 +21,7 @@ mul-if2 : tie.Need-mul-if2
 mul-if2 c = let h = legal-size _ (true-T _ (sym (c .before .is-legal .ensures) ∙ not-false _ (c .if1 .left))) in omega arith
 
 character-of-requires : tie.Need-character-of-requires
-character-of-requires c κs = (legal-size _ (true-T _ (sym (c .before .before .is-legal .ensures) ∙ not-false _ (c .before .if1 .left))), omega arith)
+character-of-requires c κs = search needs
 
 cast-t9 : tie.Need-cast-t9
 cast-t9 c = search needs

@@ -25,7 +25,7 @@ cast-result : tie.Need-cast-result
 cast-result c = search needs
 
 returns : tie.Need-returns
-returns c = ap₂ (λ (x y : ℕ). (x * 256 + y) / 2 ^ (c .before .before .args .after) % 1024) (c .before .wide8 .ensures) (c .wide82 .ensures)
+returns c = ap₂ (λ (x y : ℕ). (x * 256 + y) / 2 ^ (c .before .before .args .after % 8) % 1024) (c .before .wide8 .ensures) (c .wide82 .ensures)
 
 pub ten-bits-spec : {M : Type 1} → statement M
 ten-bits-spec =

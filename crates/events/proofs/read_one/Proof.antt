@@ -13,25 +13,29 @@ use Rattle.character_rules.proofs.Packed.{unpacked-reading}
 use Rattle.character_rules.proofs.RunLaws.{disparity-is}
 use Rattle.capture_rules.specs.Capture.{charactersOf}
 use Rattle.capture_rules.proofs.Packing.{characters-below, characters-length}
-use Rattle.packet_rules.specs.Answers.{Answer}
+use Rattle.packet_rules.specs.Answers.{Answer, stepSays}
 use Rattle.packet_rules.specs.Step.{stepOf}
+use Rattle.packet_reader.proofs.Agree.{agree}
 use Rattle.events_rules.specs.Numbers.{packedEvent}
 use Rattle.events_rules.proofs.Runs.{ran-one}
 use Rattle.events.proofs.read_one.Statement.{statement}
 use Rattle.events.proofs.read_one.Tie as tie
 
-ten-bits-requires : tie.Need-ten-bits-requires
-ten-bits-requires c κs = search needs
+character-in-requires : tie.Need-character-in-requires
+character-in-requires c κs = search needs
 
 look-up-requires : tie.Need-look-up-requires
 look-up-requires c κs =
-    let ten = c .ten-bits in
+    let character = c .character-in in
     let s = c .before .before .before .before in
     let low = getD-below 1024 (charactersOf (s .args .capture .now)) (omega arith) (characters-below (s .args .capture .now)) (s .args .from .at) in
-    (s .pre .0, subst (λ (n : ℕ). n < 1024) (sym (ten .ensures)) low)
+    (s .pre .0, subst (λ (n : ℕ). n < 1024) (sym (character .ensures)) low)
 
-turn-requires : tie.Need-turn-requires
-turn-requires c κs = search needs
+unpack-result-requires : tie.Need-unpack-result-requires
+unpack-result-requires c κs = search needs
+
+advance-requires : tie.Need-advance-requires
+advance-requires c κs = search needs
 
 event-number-requires : tie.Need-event-number-requires
 event-number-requires c κs = search needs
@@ -42,8 +46,8 @@ mul-events c = search needs
 slice-write-events : tie.Need-slice-write-events
 slice-write-events c = search needs
 
-add-t13 : tie.Need-add-t13
-add-t13 c = search needs
+add-t14 : tie.Need-add-t14
+add-t14 c = search needs
 
 same-length : tie.Need-same-length
 same-length c = search needs
@@ -51,10 +55,11 @@ same-length c = search needs
 returns : tie.Need-returns
 returns c =
     let number = c .event-number in
-    let turned = c .before .before .turn in
-    let found = c .before .before .before .look-up in
-    let ten = c .before .before .before .before .ten-bits in
-    let s = c .before .before .before .before .before .before .before .before in
+    let turned = c .before .before .advance in
+    let result = c .before .before .before .unpack-result in
+    let found = c .before .before .before .before .look-up in
+    let character = c .before .before .before .before .before .character-in in
+    let s = c .before .before .before .before .before .before .before .before .before in
     let a = s .args in
     let cs = charactersOf (a .capture .now) in
     let i = a .from .at in
@@ -65,9 +70,9 @@ returns c =
     let h = s .pre .2 in
     let f = s .pre .3 in
     let is : found .result ≡ packed (reading (getD cs i 0) (disparityOf p)) =
-    found .ensures ∙ ap (λ (k : ℕ). packed (reading k (disparityOf p))) (ten .ensures) in
-    let said =
-    turned .ensures ∙ ap (stepOf r) (ap unpacked is ∙ unpacked-reading (getD cs i 0) (disparityOf p) (omega arith) (disparity-is p)) in
+    found .ensures ∙ ap (λ (k : ℕ). packed (reading k (disparityOf p))) (character .ensures) in
+    let shown = result .ensures ∙ ap unpacked is ∙ unpacked-reading (getD cs i 0) (disparityOf p) (omega arith) (disparity-is p) in
+    let said = ap stepSays (turned .ensures) ∙ agree r (result .result) (s .pre .4) ∙ ap (stepOf r) shown in
     let event = number .ensures ∙ ap (λ (x : Answer). packedEvent (x .said)) said in
     let state = ap (λ (x : Answer). x .reader) said in (
       ran-one cs i p r (a .events .now) (found .result) (number .result) (turned .result .reader) (omega arith) low (omega arith)
@@ -79,5 +84,5 @@ pub read-one-spec : {M : Type 1} → statement M
 read-one-spec =
     tie.close
     (tie.spec
-    ten-bits-requires look-up-requires turn-requires event-number-requires mul-events slice-write-events add-t13 same-length
-    returns)
+    character-in-requires look-up-requires unpack-result-requires advance-requires event-number-requires mul-events slice-write-events add-t14
+    same-length returns)

@@ -1,6 +1,5 @@
 -- The run of bytes, then one character more.
 -- Assumes nothing.
-use borrow.Author.Needs.{needs}
 use native.Mathlib.Omega.{arith}
 use mathlib.Core.Path.{_∙_}
 use Rattle.capture_rules.specs.Capture.{charactersOf}

@@ -31,18 +31,18 @@ loop-holds c =
     let long = characters-length (a .capture .now) in
     fed-none (charactersOf (a .capture .now)) (a .until) (from .at) (from .plus) (from .register) (a .events .now) (omega arith) (s .pre .4)
 
-ten-bits-requires : tie.Need-ten-bits-requires Inv-loop μ-loop
-ten-bits-requires c κs =
+character-in-requires : tie.Need-character-in-requires Inv-loop μ-loop
+character-in-requires c κs =
     let s = c .before .before .before .before in
     (s .pre .1, omega arith)
 
 look-up-requires : tie.Need-look-up-requires Inv-loop μ-loop
 look-up-requires c κs =
-    let ten = c .ten-bits in
+    let character = c .character-in in
     let l = c .before .before .loop in
     let s = c .before .before .before .before .before in
     let low = getD-below 1024 (charactersOf (s .args .capture .now)) (omega arith) (characters-below (s .args .capture .now)) (l .at) in
-    (s .pre .0, subst (λ (n : ℕ). n < 1024) (sym (ten .ensures)) low)
+    (s .pre .0, subst (λ (n : ℕ). n < 1024) (sym (character .ensures)) low)
 
 same-length : tie.Need-same-length Inv-loop μ-loop
 same-length c =
@@ -89,7 +89,7 @@ loop-again c =
     let stepped = c .step-by in
     let one = c .before .if1 in
     let found = c .before .before .look-up in
-    let ten = c .before .before .before .ten-bits in
+    let character = c .before .before .before .character-in in
     let test = c .before .before .before .before .loop-test in
     let l = c .before .before .before .before .before .loop in
     let s = c .before .before .before .before .before .before .before .before in
@@ -100,7 +100,7 @@ loop-again c =
     let low = getD-below 1024 (charactersOf (s .args .capture .now)) (omega arith) (characters-below (s .args .capture .now)) (l .at) in
     let long = characters-length (a .capture .now) in
     let room = l .inv .room in
-    let is = found .ensures ∙ ap (λ (k : ℕ). packed (reading k (disparityOf (l .plus)))) (ten .ensures) in
+    let is = found .ensures ∙ ap (λ (k : ℕ). packed (reading k (disparityOf (l .plus)))) (character .ensures) in
     let fed =
     fed-one cs (a .until) (from .at) (from .plus) (from .register) (a .events .now) (omega arith) (l .at) (l .plus) (l .register)
     (l .events) n (l .inv) (test .taken) low (omega arith) is (one .left) in
@@ -122,5 +122,5 @@ pub take-bytes-spec : {M : Type 1} → statement M
 take-bytes-spec =
     tie.close
     (tie.spec Inv-loop μ-loop
-    loop-holds ten-bits-requires look-up-requires same-length returns cast-events add-events mul-events slice-write-events
+    loop-holds character-in-requires look-up-requires same-length returns cast-events add-events mul-events slice-write-events
     cast-step-by step-by-requires add-at loop-less loop-again same-length-2 returns-2)
