@@ -7,7 +7,7 @@ cd "$root"
 ar=$(dirname "$(rt doc)")/../on/$(uname -m)/toolchain/bin/llvm-ar # the kit's: the machine's own may not know x86-64
 work=$(mktemp -d)
 trap 'rm -rf "$work"' EXIT
-for room in host_characters host_captures host_packets host_events host_sender host_receiver; do
+for room in host_characters host_captures host_packets host_events host_offers host_sender host_receiver; do
   rt staticlib "$room"
   (cd "$work" && "$ar" x "$root/target/staticlib/lib$room.a")
 done

@@ -8,8 +8,8 @@ use Rattle.host_rules.specs.Numbers.{markOf}
 use Rattle.host_calls.specs.SenderCalls.{Offers}
 use Rattle.host_calls.proofs.SenderLaws.{offer-refused, offer-done}
 use borrow.Author.Needs.{needs}
-use Rattle.host_sender.proofs.offers.buzz_sender_offer.Statement.{statement}
-use Rattle.host_sender.proofs.offers.buzz_sender_offer.Tie as tie
+use Rattle.host_offers.proofs.buzz_sender_offer.Statement.{statement}
+use Rattle.host_offers.proofs.buzz_sender_offer.Tie as tie
 
 sender-in-requires : tie.Need-sender-in-requires
 sender-in-requires c κs = search needs

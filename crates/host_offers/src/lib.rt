@@ -1,4 +1,4 @@
-// Offers and sends: the eight buffers are one lent run of 8 times S bytes.
+// What C calls to store a segment and to send one: the eight buffers are one lent run of 8 times S bytes.
 use host_marks::mark_number;
 ghost use mathlib.Core.Path.{_≡_};
 ghost use Rattle.host_calls.specs.SenderCalls.{Offers, offers, Sends, sends};

@@ -3,8 +3,8 @@
 use mathlib.Core.Path.{_≡_, refl, sym, ap, _∙_}
 use Rattle.host_calls.proofs.SenderLaws.{begin-refused, begin-done}
 use borrow.Author.Needs.{needs}
-use Rattle.host_sender.proofs.senders.buzz_sender_fresh.Statement.{statement}
-use Rattle.host_sender.proofs.senders.buzz_sender_fresh.Tie as tie
+use Rattle.host_sender.proofs.buzz_sender_fresh.Statement.{statement}
+use Rattle.host_sender.proofs.buzz_sender_fresh.Tie as tie
 
 fresh-sender-requires : tie.Need-fresh-sender-requires
 fresh-sender-requires c κs = search needs

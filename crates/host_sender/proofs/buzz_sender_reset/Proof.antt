@@ -5,8 +5,8 @@ use Rattle.retry_rules.specs.declared.Sender.{Sender}
 use Rattle.retry_rules.specs.Fresh.{resetOf}
 use Rattle.host_calls.proofs.SenderLaws.{reset-refused, reset-done}
 use borrow.Author.Needs.{needs}
-use Rattle.host_sender.proofs.senders.buzz_sender_reset.Statement.{statement}
-use Rattle.host_sender.proofs.senders.buzz_sender_reset.Tie as tie
+use Rattle.host_sender.proofs.buzz_sender_reset.Statement.{statement}
+use Rattle.host_sender.proofs.buzz_sender_reset.Tie as tie
 
 sender-in-requires : tie.Need-sender-in-requires
 sender-in-requires c κs = search needs

@@ -7,8 +7,8 @@ use Rattle.retry_rules.specs.Send.{sendOf, sendOutput}
 use Rattle.host_calls.specs.SenderCalls.{Sends}
 use Rattle.host_calls.proofs.SenderLaws.{send-refused, send-done}
 use borrow.Author.Needs.{needs}
-use Rattle.host_sender.proofs.offers.buzz_sender_send.Statement.{statement}
-use Rattle.host_sender.proofs.offers.buzz_sender_send.Tie as tie
+use Rattle.host_offers.proofs.buzz_sender_send.Statement.{statement}
+use Rattle.host_offers.proofs.buzz_sender_send.Tie as tie
 
 sender-in-requires : tie.Need-sender-in-requires
 sender-in-requires c κs = search needs
