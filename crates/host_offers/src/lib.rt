@@ -19,7 +19,7 @@ pub extern "C" fn buzz_sender_offer(
         × (now (number .exit) ≡ after .lent .number)) ⌝ }
 {
     let given = host_retry::sender_in(*sender);
-    let offered = retry_buffers::offer(given, buffers, channel, bad != 0, bytes);
+    let offered = retry_offer::offer(given, buffers, channel, bad != 0, bytes);
     if offered.refusal != 0 {
         return offered.refusal as u32;
     }
@@ -56,7 +56,7 @@ pub extern "C" fn buzz_sender_send(
         × (now (bad .exit) ≡ after .lent .bad) × (now (bytes .exit) ≡ after .lent .size)) ⌝ }
 {
     let given = host_retry::sender_in(*sender);
-    let gone = retry_buffers::send(given, buffers, output);
+    let gone = retry_send::send(given, buffers, output);
     if gone.refusal != 0 {
         return gone.refusal as u32;
     }

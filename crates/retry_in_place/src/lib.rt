@@ -73,7 +73,7 @@ pub fn offer_in_place(
         × (now (sender .exit) ≡ offerOf (now (sender .entry)) (length (now (buffers .entry))) channel bad (length (now (bytes .entry))) .sender)
         × (now (buffers .exit) ≡ offerBuffers (now (sender .entry)) (now (buffers .entry)) channel (now (bytes .entry))) ⌝ }
 {
-    let offered = retry_buffers::offer(*sender, buffers, channel, bad, bytes);
+    let offered = retry_offer::offer(*sender, buffers, channel, bad, bytes);
     *sender = offered.sender;
     OfferAnswer {
         refusal: offered.refusal,
@@ -86,7 +86,7 @@ pub fn send_in_place(sender: &mut Sender, buffers: &[u8], output: &mut [u8]) -> 
         × (now (sender .exit) ≡ sendOf (now (sender .entry)) (length (now (buffers .entry))) (length (now (output .entry))) .sender)
         × (now (output .exit) ≡ sendOutput (now (sender .entry)) (now (buffers .entry)) (now (output .entry))) ⌝ }
 {
-    let sent = retry_buffers::send(*sender, buffers, output);
+    let sent = retry_send::send(*sender, buffers, output);
     *sender = sent.sender;
     SendAnswer {
         refusal: sent.refusal,

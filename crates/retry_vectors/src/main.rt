@@ -69,7 +69,7 @@ fn offer(call: &[u8], script: &[u8], sender: Sender, memory: &mut [u8]) -> Sende
     let from = part.from;
     let to = part.to;
     let lent = clamped(field(call, 2), memory.len());
-    let a = retry_buffers::offer(
+    let a = retry_offer::offer(
         sender,
         &mut memory[..lent],
         field(call, 0),
@@ -84,7 +84,7 @@ fn offer(call: &[u8], script: &[u8], sender: Sender, memory: &mut [u8]) -> Sende
 fn send(call: &[u8], sender: Sender, memory: &[u8], output: &mut [u8]) -> Sender {
     let room = clamped(field(call, 1), output.len());
     let lent = clamped(field(call, 2), memory.len());
-    let a = retry_buffers::send(sender, &memory[..lent], &mut output[..room]);
+    let a = retry_send::send(sender, &memory[..lent], &mut output[..room]);
     word(b"send");
     numbers(
         &[
