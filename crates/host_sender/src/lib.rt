@@ -38,7 +38,7 @@ pub extern "C" fn buzz_sender_reply(sender: &mut [u8; 38], nack: u32, number: u3
     ensures { λ r. ⌜ (let after = hears nack number (now (sender .entry)) in (r ≡ after .refusal) × (now (sender .exit) ≡ after .lent)) ⌝ }
 {
     let given = host_retry::sender_in(*sender);
-    let heard = retry_replies::replies::reply(given, nack != 0, number);
+    let heard = retry_replies::reply(given, nack != 0, number);
     if heard.refusal != 0 {
         return heard.refusal as u32;
     }
@@ -53,7 +53,7 @@ pub extern "C" fn buzz_sender_damaged_reply(sender: &mut [u8; 38]) -> u32
     ensures { λ r. ⌜ (let after = hearsDamaged (now (sender .entry)) in (r ≡ after .refusal) × (now (sender .exit) ≡ after .lent)) ⌝ }
 {
     let given = host_retry::sender_in(*sender);
-    let ignored = retry_replies::replies::damaged_reply(given);
+    let ignored = retry_replies::damaged_reply(given);
     if ignored.refusal != 0 {
         return ignored.refusal as u32;
     }
@@ -69,7 +69,7 @@ pub extern "C" fn buzz_sender_tick(sender: &mut [u8; 38], fell: &mut u32) -> u32
         (r ≡ after .refusal) × (now (sender .exit) ≡ after .lent .sender) × (now (fell .exit) ≡ after .lent .fell)) ⌝ }
 {
     let given = host_retry::sender_in(*sender);
-    let ticked = retry_replies::timer::tick(given);
+    let ticked = retry_timer::tick(given);
     if ticked.refusal != 0 {
         return ticked.refusal as u32;
     }

@@ -1,7 +1,5 @@
 // Document 01: "Each call alters the host's one copy of the sender's counters". Each function takes the sender out from behind the reference, makes the
 // call by value, and puts the sender back; it answers what is left of the answer.
-use retry_replies::replies;
-use retry_replies::timer;
 use retry_rules::Sender;
 use retry_state::beginning;
 ghost use mathlib.Core.Path.{_≡_};
@@ -38,7 +36,7 @@ pub struct TickAnswer {
 pub fn reply_in_place(sender: &mut Sender, nack: bool, number: u32) -> u8
     ensures { λ r. ⌜ (r ≡ replyOf (now (sender .entry)) nack number .refusal) × (now (sender .exit) ≡ replyOf (now (sender .entry)) nack number .sender) ⌝ }
 {
-    let heard = replies::reply(*sender, nack, number);
+    let heard = retry_replies::reply(*sender, nack, number);
     *sender = heard.sender;
     heard.refusal
 }
@@ -54,7 +52,7 @@ pub fn reset_in_place(sender: &mut Sender, columns: u32, size: u32) -> u8
 pub fn tick_in_place(sender: &mut Sender) -> TickAnswer
     ensures { λ r. ⌜ (r ≡ tickBeside (tickOf (now (sender .entry)))) × (now (sender .exit) ≡ tickOf (now (sender .entry)) .sender) ⌝ }
 {
-    let ticked = timer::tick(*sender);
+    let ticked = retry_timer::tick(*sender);
     *sender = ticked.sender;
     TickAnswer {
         refusal: ticked.refusal,

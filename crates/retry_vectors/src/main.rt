@@ -1,7 +1,5 @@
 // Runs a script of calls of both ends of the retry and prints what each answers, the state it hands back, and a sum over the lent memory. The script comes on
 // standard input; tests/retry makes it, and what this program must print, from an implementation of its own.
-use retry_replies::replies;
-use retry_replies::timer;
 use retry_rules::Arrived;
 use retry_rules::Receiver;
 use retry_rules::Sender;
@@ -100,21 +98,21 @@ fn send(call: &[u8], sender: Sender, memory: &[u8], output: &mut [u8]) -> Sender
 }
 
 fn reply(call: &[u8], sender: Sender) -> Sender {
-    let a = replies::reply(sender, flag(call, 0), field(call, 0));
+    let a = retry_replies::reply(sender, flag(call, 0), field(call, 0));
     word(b"reply");
     numbers(&[a.refusal as u32]);
     a.sender
 }
 
 fn damaged_reply(sender: Sender) -> Sender {
-    let a = replies::damaged_reply(sender);
+    let a = retry_replies::damaged_reply(sender);
     word(b"damaged-reply");
     numbers(&[a.refusal as u32]);
     a.sender
 }
 
 fn tick(sender: Sender) -> Sender {
-    let a = timer::tick(sender);
+    let a = retry_timer::tick(sender);
     word(b"tick");
     numbers(&[a.refusal as u32, mark(a.fell)]);
     a.sender
