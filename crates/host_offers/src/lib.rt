@@ -24,7 +24,7 @@ pub extern "C" fn buzz_sender_offer(
         return offered.refusal as u32;
     }
     let next = offered.sender;
-    *sender = host_retry::sender_bytes(next);
+    *sender = host_retry_bytes::sender_bytes(next);
     *number = offered.number as u32;
     0
 }
@@ -61,7 +61,7 @@ pub extern "C" fn buzz_sender_send(
         return gone.refusal as u32;
     }
     let next = gone.sender;
-    *sender = host_retry::sender_bytes(next);
+    *sender = host_retry_bytes::sender_bytes(next);
     *sent = mark_number(gone.sent);
     *number = gone.number as u32;
     *channel = gone.channel as u32;

@@ -13,7 +13,7 @@ pub extern "C" fn buzz_sender_fresh(columns: u32, size: u32, sender: &mut [u8; 3
         return made.refusal as u32;
     }
     let next = made.sender;
-    *sender = host_retry::sender_bytes(next);
+    *sender = host_retry_bytes::sender_bytes(next);
     0
 }
 
@@ -28,7 +28,7 @@ pub extern "C" fn buzz_sender_reset(sender: &mut [u8; 38], columns: u32, size: u
         return begun.refusal as u32;
     }
     let next = begun.sender;
-    *sender = host_retry::sender_bytes(next);
+    *sender = host_retry_bytes::sender_bytes(next);
     0
 }
 
@@ -43,7 +43,7 @@ pub extern "C" fn buzz_sender_reply(sender: &mut [u8; 38], nack: u32, number: u3
         return heard.refusal as u32;
     }
     let next = heard.sender;
-    *sender = host_retry::sender_bytes(next);
+    *sender = host_retry_bytes::sender_bytes(next);
     0
 }
 
@@ -58,7 +58,7 @@ pub extern "C" fn buzz_sender_damaged_reply(sender: &mut [u8; 38]) -> u32
         return ignored.refusal as u32;
     }
     let next = ignored.sender;
-    *sender = host_retry::sender_bytes(next);
+    *sender = host_retry_bytes::sender_bytes(next);
     0
 }
 
@@ -74,7 +74,7 @@ pub extern "C" fn buzz_sender_tick(sender: &mut [u8; 38], fell: &mut u32) -> u32
         return ticked.refusal as u32;
     }
     let next = ticked.sender;
-    *sender = host_retry::sender_bytes(next);
+    *sender = host_retry_bytes::sender_bytes(next);
     *fell = mark_number(ticked.fell);
     0
 }

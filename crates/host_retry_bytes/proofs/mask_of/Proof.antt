@@ -2,10 +2,10 @@
 -- Assumes nothing.
 use mathlib.Core.Path.{_≡_, refl, sym, ap, _∙_}
 use Rattle.host_retry_rules.specs.SenderBytes.{maskOf}
-use Rattle.host_retry.proofs.Sums.{next, last}
+use Rattle.host_retry_bytes.proofs.Sums.{next, last}
 use borrow.Author.Needs.{needs}
-use Rattle.host_retry.proofs.mask_of.Statement.{statement}
-use Rattle.host_retry.proofs.mask_of.Tie as tie
+use Rattle.host_retry_bytes.proofs.mask_of.Statement.{statement}
+use Rattle.host_retry_bytes.proofs.mask_of.Tie as tie
 
 array-read-mark-number : tie.Need-array-read-mark-number
 array-read-mark-number c = search needs

@@ -1,11 +1,9 @@
 -- Byte by byte.
 -- Assumes nothing.
-use mathlib.Core.Path.{_≡_, refl, sym, ap, _∙_}
-use Rattle.host_retry_rules.specs.SenderBytes.{senderBytes}
-use Rattle.host_retry.proofs.Bytes.{also}
+use Rattle.host_retry_bytes.proofs.Bytes.{as-found}
 use borrow.Author.Needs.{needs}
-use Rattle.host_retry.proofs.sender_bytes.Statement.{statement}
-use Rattle.host_retry.proofs.sender_bytes.Tie as tie
+use Rattle.host_retry_bytes.proofs.sender_bytes.Statement.{statement}
+use Rattle.host_retry_bytes.proofs.sender_bytes.Tie as tie
 
 mask-of-requires : tie.Need-mask-of-requires
 mask-of-requires c κs = search needs
@@ -149,8 +147,17 @@ array-read-t115 : tie.Need-array-read-t115
 array-read-t115 c = search needs
 
 returns : tie.Need-returns
-unfolding senderBytes
-returns c = also refl (also refl (also refl (also refl (also refl (also refl (also refl (also refl (also refl (also refl (also refl (also refl (also refl (also (c .before .before .before .before .before .before .before .high .ensures) (also refl (also (c .before .before .before .before .before .before .high2 .ensures) (also refl (also (c .before .before .before .before .before .high3 .ensures) (also refl (also (c .before .before .before .before .high4 .ensures) (also refl (also (c .before .before .before .high5 .ensures) (also refl (also (c .before .before .high6 .ensures) (also refl (also (c .before .high7 .ensures) (also refl (also (c .high8 .ensures) (also refl (also refl (also refl (also refl (also refl (also refl (also refl (also refl (also refl (also (c .before .before .before .before .before .before .before .before .before .before .before .before .before .before .mask-of .ensures) (refl))))))))))))))))))))))))))))))))))))))
+returns c =
+    as-found _
+    (c .before .before .before .before .before .before .before .high .ensures)
+    (c .before .before .before .before .before .before .high2 .ensures)
+    (c .before .before .before .before .before .high3 .ensures)
+    (c .before .before .before .before .high4 .ensures)
+    (c .before .before .before .high5 .ensures)
+    (c .before .before .high6 .ensures)
+    (c .before .high7 .ensures)
+    (c .high8 .ensures)
+    (c .before .before .before .before .before .before .before .before .before .before .before .before .before .before .mask-of .ensures)
 
 pub sender-bytes-spec : {M : Type 1} → statement M
 sender-bytes-spec =
