@@ -145,7 +145,7 @@ fn arrival(call: &[u8], script: &[u8], given: Receiver, output: &mut [u8]) -> Re
     let from = part.from;
     let to = part.to;
     let room = clamped(both / 65536, output.len());
-    let a = retry_receiver::arrival(
+    let a = retry_arrival::arrival(
         given,
         field(call, 0),
         field(call, 1),

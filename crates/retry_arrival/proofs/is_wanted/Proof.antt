@@ -2,8 +2,8 @@
 -- Assumes nothing.
 use borrow.Author.Needs.{needs}
 use borrow.Author.Tests.{eq-eqb, ne-eqb}
-use Rattle.retry_receiver.proofs.is_wanted.Statement.{statement}
-use Rattle.retry_receiver.proofs.is_wanted.Tie as tie
+use Rattle.retry_arrival.proofs.is_wanted.Statement.{statement}
+use Rattle.retry_arrival.proofs.is_wanted.Tie as tie
 
 cast-if1 : tie.Need-cast-if1
 cast-if1 c = search needs

@@ -4,9 +4,9 @@ use borrow.Author.Needs.{needs}
 use mathlib.Core.Path.{sym, _∙_}
 use native.Mathlib.Omega.{arith}
 use Rattle.retry_parts.proofs.Fitting.{laid-where}
-use Rattle.retry_receiver.proofs.Arriving.{Arrival, Passed, passed, fits-output, fits-length, refused-arrival, delivers, no-room, repeated, unexpected}
-use Rattle.retry_receiver.proofs.arrival.Statement.{statement}
-use Rattle.retry_receiver.proofs.arrival.Tie as tie
+use Rattle.retry_arrival.proofs.Arriving.{Arrival, Passed, passed, fits-output, fits-length, refused-arrival, delivers, no-room, repeated, unexpected}
+use Rattle.retry_arrival.proofs.arrival.Statement.{statement}
+use Rattle.retry_arrival.proofs.arrival.Tie as tie
 
 abbrev call : tie.Start → Arrival
 call c =

@@ -1,8 +1,8 @@
 -- The next number and the count are what their functions promise.
 -- Assumes nothing.
 use borrow.Author.Needs.{needs}
-use Rattle.retry_receiver.proofs.delivered.Statement.{statement}
-use Rattle.retry_receiver.proofs.delivered.Tie as tie
+use Rattle.retry_arrival.proofs.delivered.Statement.{statement}
+use Rattle.retry_arrival.proofs.delivered.Tie as tie
 
 after-requires : tie.Need-after-requires
 after-requires c κs = search needs

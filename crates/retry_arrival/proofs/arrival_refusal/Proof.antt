@@ -5,8 +5,8 @@ use borrow.Author.Needs.{needs}
 use borrow.Author.Tests.{eq-eqb, le-ltb, lt-ltb, ne-eqb, not-false, not-true}
 use Rattle.retry_rules.specs.Arrival.{arrivalChecks}
 use mathlib.Core.Bool.{or-true}
-use Rattle.retry_receiver.proofs.arrival_refusal.Statement.{statement}
-use Rattle.retry_receiver.proofs.arrival_refusal.Tie as tie
+use Rattle.retry_arrival.proofs.arrival_refusal.Statement.{statement}
+use Rattle.retry_arrival.proofs.arrival_refusal.Tie as tie
 
 receiver-is-ruled-requires : tie.Need-receiver-is-ruled-requires
 receiver-is-ruled-requires c κs = search needs
