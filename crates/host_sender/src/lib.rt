@@ -8,7 +8,7 @@ ghost use Rattle.host_calls.specs.SenderCalls.{beginsSender, resets, hears, hea
 pub extern "C" fn buzz_sender_fresh(columns: u32, size: u32, sender: &mut [u8; 38]) -> u32
     ensures { λ r. ⌜ (let after = beginsSender columns size (now (sender .entry)) in (r ≡ after .refusal) × (now (sender .exit) ≡ after .lent)) ⌝ }
 {
-    let made = retry_state::beginning::fresh_sender(columns, size);
+    let made = retry_beginning::fresh_sender(columns, size);
     if made.refusal != 0 {
         return made.refusal as u32;
     }
@@ -23,7 +23,7 @@ pub extern "C" fn buzz_sender_reset(sender: &mut [u8; 38], columns: u32, size: u
     ensures { λ r. ⌜ (let after = resets columns size (now (sender .entry)) in (r ≡ after .refusal) × (now (sender .exit) ≡ after .lent)) ⌝ }
 {
     let given = host_retry::sender_in(*sender);
-    let begun = retry_state::beginning::reset(given, columns, size);
+    let begun = retry_beginning::reset(given, columns, size);
     if begun.refusal != 0 {
         return begun.refusal as u32;
     }

@@ -1,7 +1,6 @@
 // Document 01: "Each call alters the host's one copy of the sender's counters". Each function takes the sender out from behind the reference, makes the
 // call by value, and puts the sender back; it answers what is left of the answer.
 use retry_rules::Sender;
-use retry_state::beginning;
 ghost use mathlib.Core.Path.{_≡_};
 ghost use lib.ListN.{length};
 ghost use Rattle.retry_rules.specs.Fresh.{resetOf};
@@ -44,7 +43,7 @@ pub fn reply_in_place(sender: &mut Sender, nack: bool, number: u32) -> u8
 pub fn reset_in_place(sender: &mut Sender, columns: u32, size: u32) -> u8
     ensures { λ r. ⌜ (r ≡ resetOf (now (sender .entry)) columns size .refusal) × (now (sender .exit) ≡ resetOf (now (sender .entry)) columns size .sender) ⌝ }
 {
-    let begun = beginning::reset(*sender, columns, size);
+    let begun = retry_beginning::reset(*sender, columns, size);
     *sender = begun.sender;
     begun.refusal
 }

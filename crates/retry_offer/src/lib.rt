@@ -8,7 +8,7 @@ use retry_rules::Sender;
 use retry_rules::Slots;
 use retry_slots::buffer_of;
 use retry_slots::slot_of;
-use retry_state::rule::sender_is_ruled;
+use retry_state::sender_is_ruled;
 ghost use mathlib.Core.Path.{_≡_};
 ghost use Prim.Native.Nat.{_<_};
 ghost use lib.ListN.{length};

@@ -3,7 +3,7 @@ use retry_rules::Counters;
 use retry_rules::DOWN;
 use retry_rules::Sender;
 use retry_rules::Ticked;
-use retry_state::rule::sender_refusal;
+use retry_state::sender_refusal;
 ghost use mathlib.Core.Path.{_≡_};
 ghost use Prim.Native.Nat.{_<_};
 ghost use Rattle.retry_rules.specs.Tick.{expired, fallen, ticked, tickOf};

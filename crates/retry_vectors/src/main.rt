@@ -3,7 +3,6 @@
 use retry_rules::Arrived;
 use retry_rules::Receiver;
 use retry_rules::Sender;
-use retry_state::beginning;
 
 mod print;
 mod script;
@@ -49,14 +48,14 @@ fn segment(call: &[u8], script: &[u8], bytes: u32) -> Part
 }
 
 fn fresh_sender(call: &[u8]) -> Sender {
-    let a = beginning::fresh_sender(field(call, 0), field(call, 1));
+    let a = retry_beginning::fresh_sender(field(call, 0), field(call, 1));
     word(b"fresh-sender");
     numbers(&[a.refusal as u32]);
     a.sender
 }
 
 fn reset(call: &[u8], sender: Sender) -> Sender {
-    let a = beginning::reset(sender, field(call, 0), field(call, 1));
+    let a = retry_beginning::reset(sender, field(call, 0), field(call, 1));
     word(b"reset");
     numbers(&[a.refusal as u32]);
     a.sender
@@ -224,7 +223,7 @@ fn step(call: &[u8], script: &[u8], world: World, memory: &mut [u8], output: &mu
 }
 
 fn run(script: &[u8], memory: &mut [u8], output: &mut [u8]) {
-    let begun = beginning::fresh_sender(1, 8);
+    let begun = retry_beginning::fresh_sender(1, 8);
     let sender = begun.sender;
     let begun = retry_receiver::fresh_receiver(8);
     let receiver = begun.receiver;
