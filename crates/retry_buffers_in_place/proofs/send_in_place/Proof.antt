@@ -45,24 +45,24 @@ use denote.Triple.Walked.{says, Stays, stay-ref, gave-slice, stay-none-slice, wa
 use denote.Triple.Walked.{goes-ref, goes-gave-slice, goes-none-slice, Walks, ends-at, walked, walk-meets}
 use denote.Exit.{yes}
 use Rattle.retry_rules.specs.Send.{sendOf, sendOutput}
-use Rattle.retry_in_place.specs.Beside.{sendBeside}
+use Rattle.retry_buffers_in_place.specs.Beside.{sendBeside}
 use Rattle.retry_rules.specs.declared.Sender.{Sender}
 use Rattle.retry_rules.specs.declared.Sent.{Sent}
 use Rattle.retry_rules.proofs.Sender as T
 use Rattle.retry_rules.proofs.Sender.Laws as T′
 use Rattle.retry_rules.proofs.Sent as S
 use Rattle.retry_rules.proofs.Sent.Laws as S′
-use Rattle.retry_in_place.proofs.SendAnswer as U
-use Rattle.retry_in_place.proofs.SendAnswer.Laws as U′
+use Rattle.retry_buffers_in_place.proofs.SendAnswer as U
+use Rattle.retry_buffers_in_place.proofs.SendAnswer.Laws as U′
 use Rattle.retry_send.proofs.send as callee
 use Rattle.retry_send.proofs.send.Symbol as callee-def
 use Rattle.retry_send.proofs.send.Symbol.{name as #callee}
 use Rattle.retry_send.proofs.send.Met as callee-thm
 use Rattle.retry_in_place.proofs.Behind.{machs, opened, closed}
-use Rattle.retry_in_place.proofs.send_in_place.Key.{name as #thin}
-use Rattle.retry_in_place.proofs.send_in_place as thin
-use Rattle.retry_in_place.proofs.send_in_place.Statement as stated
-use Rattle.retry_in_place.proofs.send_in_place.Code as code
+use Rattle.retry_buffers_in_place.proofs.send_in_place.Key.{name as #thin}
+use Rattle.retry_buffers_in_place.proofs.send_in_place as thin
+use Rattle.retry_buffers_in_place.proofs.send_in_place.Statement as stated
+use Rattle.retry_buffers_in_place.proofs.send_in_place.Code as code
 
 abbrev Arg : Type 0
 Arg = RefT Sender × (RefT (List ℕ) × (RefT (List ℕ) × Unit {0}))

@@ -47,24 +47,24 @@ use denote.Triple.Walked.{says, Stays, stay-ref, stay-none, gave-slice, stay-non
 use denote.Triple.Walked.{goes-none, goes-ref, goes-gave-slice, goes-none-slice, Walks, ends-at, walked, walk-meets}
 use denote.Exit.{yes}
 use Rattle.retry_rules.specs.Offer.{offerOf, offerBuffers}
-use Rattle.retry_in_place.specs.Beside.{offerBeside}
+use Rattle.retry_buffers_in_place.specs.Beside.{offerBeside}
 use Rattle.retry_rules.specs.declared.Sender.{Sender}
 use Rattle.retry_rules.specs.declared.Offered.{Offered}
 use Rattle.retry_rules.proofs.Sender as T
 use Rattle.retry_rules.proofs.Sender.Laws as T′
 use Rattle.retry_rules.proofs.Offered as S
 use Rattle.retry_rules.proofs.Offered.Laws as S′
-use Rattle.retry_in_place.proofs.OfferAnswer as U
-use Rattle.retry_in_place.proofs.OfferAnswer.Laws as U′
+use Rattle.retry_buffers_in_place.proofs.OfferAnswer as U
+use Rattle.retry_buffers_in_place.proofs.OfferAnswer.Laws as U′
 use Rattle.retry_offer.proofs.offer as callee
 use Rattle.retry_offer.proofs.offer.Symbol as callee-def
 use Rattle.retry_offer.proofs.offer.Symbol.{name as #callee}
 use Rattle.retry_offer.proofs.offer.Met as callee-thm
 use Rattle.retry_in_place.proofs.Behind.{machs, opened, closed}
-use Rattle.retry_in_place.proofs.offer_in_place.Key.{name as #thin}
-use Rattle.retry_in_place.proofs.offer_in_place as thin
-use Rattle.retry_in_place.proofs.offer_in_place.Statement as stated
-use Rattle.retry_in_place.proofs.offer_in_place.Code as code
+use Rattle.retry_buffers_in_place.proofs.offer_in_place.Key.{name as #thin}
+use Rattle.retry_buffers_in_place.proofs.offer_in_place as thin
+use Rattle.retry_buffers_in_place.proofs.offer_in_place.Statement as stated
+use Rattle.retry_buffers_in_place.proofs.offer_in_place.Code as code
 
 abbrev Arg : Type 0
 Arg = RefT Sender × (RefT (List ℕ) × (ℕ × (Bool × (RefT (List ℕ) × Unit {0}))))
