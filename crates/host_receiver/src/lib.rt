@@ -53,7 +53,7 @@ pub extern "C" fn buzz_receiver_arrival(
         × (now (nack .exit) ≡ after .lent .nack) × (now (reply .exit) ≡ after .lent .reply)) ⌝ }
 {
     let given = state::receiver_in(*receiver);
-    let arrived = retry_receiver::arrival(
+    let arrived = retry_arrival::arrival(
         given,
         number,
         channel,

@@ -1,11 +1,8 @@
 // Runs a script of calls of both ends of the retry and prints what each answers, the state it hands back, and a sum over the lent memory. The script comes on
 // standard input; tests/retry makes it, and what this program must print, from an implementation of its own.
-use retry_replies::replies;
-use retry_replies::timer;
 use retry_rules::Arrived;
 use retry_rules::Receiver;
 use retry_rules::Sender;
-use retry_state::beginning;
 
 mod print;
 mod script;
@@ -51,14 +48,14 @@ fn segment(call: &[u8], script: &[u8], bytes: u32) -> Part
 }
 
 fn fresh_sender(call: &[u8]) -> Sender {
-    let a = beginning::fresh_sender(field(call, 0), field(call, 1));
+    let a = retry_beginning::fresh_sender(field(call, 0), field(call, 1));
     word(b"fresh-sender");
     numbers(&[a.refusal as u32]);
     a.sender
 }
 
 fn reset(call: &[u8], sender: Sender) -> Sender {
-    let a = beginning::reset(sender, field(call, 0), field(call, 1));
+    let a = retry_beginning::reset(sender, field(call, 0), field(call, 1));
     word(b"reset");
     numbers(&[a.refusal as u32]);
     a.sender
@@ -69,7 +66,7 @@ fn offer(call: &[u8], script: &[u8], sender: Sender, memory: &mut [u8]) -> Sende
     let from = part.from;
     let to = part.to;
     let lent = clamped(field(call, 2), memory.len());
-    let a = retry_buffers::offer(
+    let a = retry_offer::offer(
         sender,
         &mut memory[..lent],
         field(call, 0),
@@ -84,7 +81,7 @@ fn offer(call: &[u8], script: &[u8], sender: Sender, memory: &mut [u8]) -> Sende
 fn send(call: &[u8], sender: Sender, memory: &[u8], output: &mut [u8]) -> Sender {
     let room = clamped(field(call, 1), output.len());
     let lent = clamped(field(call, 2), memory.len());
-    let a = retry_buffers::send(sender, &memory[..lent], &mut output[..room]);
+    let a = retry_send::send(sender, &memory[..lent], &mut output[..room]);
     word(b"send");
     numbers(
         &[
@@ -100,21 +97,21 @@ fn send(call: &[u8], sender: Sender, memory: &[u8], output: &mut [u8]) -> Sender
 }
 
 fn reply(call: &[u8], sender: Sender) -> Sender {
-    let a = replies::reply(sender, flag(call, 0), field(call, 0));
+    let a = retry_replies::reply(sender, flag(call, 0), field(call, 0));
     word(b"reply");
     numbers(&[a.refusal as u32]);
     a.sender
 }
 
 fn damaged_reply(sender: Sender) -> Sender {
-    let a = replies::damaged_reply(sender);
+    let a = retry_replies::damaged_reply(sender);
     word(b"damaged-reply");
     numbers(&[a.refusal as u32]);
     a.sender
 }
 
 fn tick(sender: Sender) -> Sender {
-    let a = timer::tick(sender);
+    let a = retry_timer::tick(sender);
     word(b"tick");
     numbers(&[a.refusal as u32, mark(a.fell)]);
     a.sender
@@ -147,7 +144,7 @@ fn arrival(call: &[u8], script: &[u8], given: Receiver, output: &mut [u8]) -> Re
     let from = part.from;
     let to = part.to;
     let room = clamped(both / 65536, output.len());
-    let a = retry_receiver::arrival(
+    let a = retry_arrival::arrival(
         given,
         field(call, 0),
         field(call, 1),
@@ -226,7 +223,7 @@ fn step(call: &[u8], script: &[u8], world: World, memory: &mut [u8], output: &mu
 }
 
 fn run(script: &[u8], memory: &mut [u8], output: &mut [u8]) {
-    let begun = beginning::fresh_sender(1, 8);
+    let begun = retry_beginning::fresh_sender(1, 8);
     let sender = begun.sender;
     let begun = retry_receiver::fresh_receiver(8);
     let receiver = begun.receiver;

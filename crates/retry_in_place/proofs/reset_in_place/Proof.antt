@@ -1,4 +1,4 @@
--- `reset_in_place` meets its contract: a walk of its MIR, by hand. The borrow is opened, the sender is copied out of it, `retry_state::beginning::reset` is
+-- `reset_in_place` meets its contract: a walk of its MIR, by hand. The borrow is opened, the sender is copied out of it, `retry_beginning::reset` is
 -- called on the copy,
 -- the sender of the answer is stored behind the reference, and the borrow is closed at it. All that the proof knows of the call is its contract.
 -- Assumes nothing.
@@ -48,10 +48,10 @@ use Rattle.retry_rules.proofs.Sender as T
 use Rattle.retry_rules.proofs.Sender.Laws as T′
 use Rattle.retry_rules.proofs.Answered as S
 use Rattle.retry_rules.proofs.Answered.Laws as S′
-use Rattle.retry_state.proofs.beginning.reset as callee
-use Rattle.retry_state.proofs.beginning.reset.Symbol as callee-def
-use Rattle.retry_state.proofs.beginning.reset.Symbol.{name as #callee}
-use Rattle.retry_state.proofs.beginning.reset.Met as callee-thm
+use Rattle.retry_beginning.proofs.reset as callee
+use Rattle.retry_beginning.proofs.reset.Symbol as callee-def
+use Rattle.retry_beginning.proofs.reset.Symbol.{name as #callee}
+use Rattle.retry_beginning.proofs.reset.Met as callee-thm
 use Rattle.retry_in_place.proofs.Behind.{machs, opened, closed}
 use Rattle.retry_in_place.proofs.reset_in_place.Key.{name as #thin}
 use Rattle.retry_in_place.proofs.reset_in_place as thin
@@ -177,4 +177,4 @@ reset-in-place-spec 𝓤 H 𝓜 𝓖 𝓡 =
     entered 𝓤 H (tripleOf 𝓤 H (𝓖 .A) thin.signature (thin.spec 𝓤 H (𝓖 .A) (𝓜 .mem) (𝓡 .run)))
     (tables 𝓤 H 𝓜 𝓡 code.env .C) (tables 𝓤 H 𝓜 𝓡 code.env .Λ) #thin code.function (code.unfolded 𝓤 H 𝓜 𝓡)
     (thin-meets 𝓤 H (𝓖 .A) (givenOf 𝓤 H 𝓜 𝓖) (𝓜 .mem) (𝓡 .run) (tablesOf 𝓤 H 𝓜 (tables 𝓤 H 𝓜 𝓡 code.env))
-    (cited 𝓤 H (Callee 𝓤 H (𝓖 .A) (𝓜 .mem) (𝓡 .run)) 𝓜 𝓡 code.env #callee callee-def.routine code.calls-retry-state·beginning·reset (callee-thm.met 𝓤 H 𝓜 𝓖 𝓡)))
+    (cited 𝓤 H (Callee 𝓤 H (𝓖 .A) (𝓜 .mem) (𝓡 .run)) 𝓜 𝓡 code.env #callee callee-def.routine code.calls-retry-beginning·reset (callee-thm.met 𝓤 H 𝓜 𝓖 𝓡)))
