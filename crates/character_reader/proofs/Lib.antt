@@ -1,4 +1,1 @@
 pub mod Unpacking
-pub mod Runs
-pub mod Ranges
-pub mod Halves

@@ -94,7 +94,7 @@ fn print_results(results: &[u16; 1024]) {
 fn print_long_run() {
     let cs = all_characters();
     let mut results = [0u16; 1024];
-    print_end(character_reader::read_run(&cs, -1, &mut results));
+    print_end(run_reader::read_run(&cs, -1, &mut results));
     print_results(&results);
 }
 
@@ -105,7 +105,7 @@ fn wide(n: u16) -> u64 {
 // A run into an output of three numbers, which stood at 7 8 9; and what the output holds then.
 fn print_short_run(cs: &[u16], d: i32) {
     let mut out = [7u16, 8, 9];
-    print_end(character_reader::read_run(cs, d, &mut out));
+    print_end(run_reader::read_run(cs, d, &mut out));
     io::print_decimal(1, wide(out[0]));
     space();
     io::print_decimal(1, wide(out[1]));

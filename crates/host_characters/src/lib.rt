@@ -95,7 +95,7 @@ pub extern "C" fn buzz_read_characters(
     ensures { λ r. ⌜ (let after = readsRun (now (characters .entry)) (record { disparity = now (disparity .entry); results = now (results .entry) }) in
         (r ≡ after .refusal) × (now (disparity .exit) ≡ after .lent .disparity) × (now (results .exit) ≡ after .lent .results)) ⌝ }
 {
-    let answer = character_reader::read_run(characters, *disparity, results);
+    let answer = run_reader::read_run(characters, *disparity, results);
     match answer {
         RunRead::Read(closing) => {
             *disparity = closing;

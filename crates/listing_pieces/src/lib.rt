@@ -70,7 +70,7 @@ fn next_lines(capture: &[u8], p: Reached, out: &mut [u8; 2048]) -> Next
     let mut characters = [0u16; 64];
     let mut results = [0u16; 64];
     take_characters(capture, place, n, &mut characters);
-    match character_reader::read_run(&characters[..n], p.disparity, &mut results) {
+    match run_reader::read_run(&characters[..n], p.disparity, &mut results) {
         RunRead::Read(disparity) => {
             let q = listing_lines::put_results(&results[..n], p, out);
             let reader = q.reader;

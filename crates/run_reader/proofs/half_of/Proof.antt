@@ -8,8 +8,8 @@ use lib.ListN.{getD}
 use Rattle.run_table.proofs.Halves.{half-right, half-low}
 use borrow.Author.Needs.{needs}
 use Rattle.character_rules.specs.Disparity.{halfOf}
-use Rattle.character_reader.proofs.half_of.Statement.{statement}
-use Rattle.character_reader.proofs.half_of.Tie as tie
+use Rattle.run_reader.proofs.half_of.Statement.{statement}
+use Rattle.run_reader.proofs.half_of.Tie as tie
 
 mul-entry : tie.Need-mul-entry
 mul-entry c = search needs

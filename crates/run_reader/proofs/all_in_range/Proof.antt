@@ -7,10 +7,10 @@ use native.Mathlib.Omega.{arith}
 use lib.ListN.{length, drop}
 use Rattle.laws.specs.Lists.{allOf}
 use Rattle.character_rules.specs.Results.{inRange}
-use Rattle.character_reader.proofs.Ranges.{range-on, range-end}
+use Rattle.run_reader.proofs.Ranges.{range-on, range-end}
 use borrow.Author.Needs.{needs}
-use Rattle.character_reader.proofs.all_in_range.Statement.{statement}
-use Rattle.character_reader.proofs.all_in_range.Tie as tie
+use Rattle.run_reader.proofs.all_in_range.Statement.{statement}
+use Rattle.run_reader.proofs.all_in_range.Tie as tie
 
 abbrev Inv-loop : tie.InvT-loop
 Inv-loop characters so-far₀ i₀ so-far i = (i ≤ length characters) × (allOf inRange characters ≡ (so-far && allOf inRange (drop i characters)))

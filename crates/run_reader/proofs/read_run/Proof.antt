@@ -7,11 +7,11 @@ use borrow.Author.Tests.{not-true, not-false}
 use Rattle.laws.proofs.Bools.{true-T}
 use Rattle.character_rules.specs.Disparity.{isPlus}
 use Rattle.character_rules.proofs.RunLaws.{run-bad, run-far, run-short}
-use Rattle.character_reader.proofs.Runs.{run-is-read}
+use Rattle.run_reader.proofs.Runs.{run-is-read}
 use Rattle.disparity.proofs.Signed.{told-none, told-disparity}
 use borrow.Author.Needs.{needs}
-use Rattle.character_reader.proofs.read_run.Statement.{statement}
-use Rattle.character_reader.proofs.read_run.Tie as tie
+use Rattle.run_reader.proofs.read_run.Statement.{statement}
+use Rattle.run_reader.proofs.read_run.Tie as tie
 
 is-disparity-requires : tie.Need-is-disparity-requires
 is-disparity-requires c κs = search needs

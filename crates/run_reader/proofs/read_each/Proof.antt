@@ -8,11 +8,11 @@ use lib.Dec.{eqb}
 use lib.ListN.{length, set}
 use Rattle.character_rules.specs.Disparity.{disparityOf}
 use Rattle.character_rules.proofs.RunLaws.{Reached, one-more, at-end, range-at}
-use Rattle.character_reader.proofs.Halves.{number-low, top-is, start-at}
+use Rattle.run_reader.proofs.Halves.{number-low, top-is, start-at}
 use Rattle.run_table.specs.Table.{table}
 use borrow.Author.Needs.{needs}
-use Rattle.character_reader.proofs.read_each.Statement.{statement}
-use Rattle.character_reader.proofs.read_each.Tie as tie
+use Rattle.run_reader.proofs.read_each.Statement.{statement}
+use Rattle.run_reader.proofs.read_each.Tie as tie
 
 abbrev Inv-loop : tie.InvT-loop
 Inv-loop characters plus results₀ entries p₀ i₀ results p i = Reached characters (disparityOf plus) results₀ i results (eqb p 1) × (p < 2)
