@@ -3,3 +3,4 @@ pub mod Turns
 pub mod Parts
 pub mod Bytes
 pub mod Outcome
+pub mod Passed

@@ -124,18 +124,9 @@ pub fn write_data(channel: u32, bytes: &[u8], bad: bool, disparity: i32, out: &m
     ensures { λ r. ⌜ (writtenSays r ≡ packetWriting 0 (inData channel (now (bytes .entry)) bad) disparity (now (out .entry)))
         × (now (out .exit) ≡ packetOutput 0 (inData channel (now (bytes .entry)) bad) disparity (now (out .entry))) ⌝ }
 {
-    if !disparity::is_disparity(disparity) {
-        return Written::Refused(refusal::OUT_OF_RANGE);
-    }
-    if 255 < channel {
-        return Written::Refused(refusal::OUT_OF_RANGE);
-    }
-    let n = bytes.len();
-    if n == 0 {
-        return Written::Refused(refusal::NO_BYTES);
-    }
-    if out.len() < n + 6 {
-        return Written::Refused(refusal::SHORT_OUTPUT);
+    let refused = packet_refusals::data_refusal(channel, bytes, disparity, out.len());
+    if refused != 0 {
+        return Written::Refused(refused);
     }
     let p = Place { at: 0, disparity };
     let q = put_packet(&mut *out, p, 0x15C, (channel % 256) as u8, bytes, bad);
@@ -158,27 +149,16 @@ pub fn write_priority(
     ensures { λ r. ⌜ (writtenSays r ≡ packetWriting size (inPriority channel segment (now (bytes .entry)) bad) disparity (now (out .entry)))
         × (now (out .exit) ≡ packetOutput size (inPriority channel segment (now (bytes .entry)) bad) disparity (now (out .entry))) ⌝ }
 {
-    if !disparity::is_disparity(disparity) {
-        return Written::Refused(refusal::OUT_OF_RANGE);
-    }
-    if 15 < channel {
-        return Written::Refused(refusal::OUT_OF_RANGE);
-    }
-    if 15 < segment {
-        return Written::Refused(refusal::OUT_OF_RANGE);
-    }
-    if !segment_size::size_is_allowed(size) {
-        return Written::Refused(refusal::SEGMENT_SIZE);
-    }
-    let n = bytes.len();
-    if (size as usize) < n {
-        return Written::Refused(refusal::SEGMENT_SIZE);
-    }
-    if n == 0 {
-        return Written::Refused(refusal::NO_BYTES);
-    }
-    if out.len() < n + 6 {
-        return Written::Refused(refusal::SHORT_OUTPUT);
+    let refused = packet_refusals::priority_refusal(
+        size,
+        channel,
+        segment,
+        bytes,
+        disparity,
+        out.len(),
+    );
+    if refused != 0 {
+        return Written::Refused(refused);
     }
     let p = Place { at: 0, disparity };
     let opening = ((16 * segment + channel) % 256) as u8;
@@ -200,14 +180,9 @@ pub fn write_lmp(nack: bool, number: u32, disparity: i32, out: &mut [u16]) -> Wr
     ensures { λ r. ⌜ (writtenSays r ≡ packetWriting 0 (retry nack number) disparity (now (out .entry)))
         × (now (out .exit) ≡ packetOutput 0 (retry nack number) disparity (now (out .entry))) ⌝ }
 {
-    if !disparity::is_disparity(disparity) {
-        return Written::Refused(refusal::OUT_OF_RANGE);
-    }
-    if 15 < number {
-        return Written::Refused(refusal::OUT_OF_RANGE);
-    }
-    if out.len() < 4 {
-        return Written::Refused(refusal::SHORT_OUTPUT);
+    let refused = packet_refusals::lmp_refusal(number, disparity, out.len());
+    if refused != 0 {
+        return Written::Refused(refused);
     }
     let p = Place { at: 0, disparity };
     let t = retry_byte(nack);
