@@ -12,11 +12,11 @@ use Rattle.laws.specs.Groups.{allBelow}
 use Rattle.capture_rules.specs.Capture.{characterCount, charactersOf}
 use Rattle.capture_rules.proofs.Places.{character-by-place}
 
--- 1 moved up z places, in 32 bits
-pub one-up : (z : ℕ) → z ≤ 9 → 1 * 2 ^ z % 4294967296 ≡ 2 ^ z
-one-up z h = shl-exact {a = 1} 1 z 32 (omega arith) (omega arith) ∙ one-mul (2 ^ z)
+-- 1 moved up z places, in 64 bits
+pub one-up : (z : ℕ) → z ≤ 9 → 1 * 2 ^ z % 18446744073709551616 ≡ 2 ^ z
+one-up z h = shl-exact {a = 1} 1 z 64 (omega arith) (omega arith) ∙ one-mul (2 ^ z)
 
-pub one-up-pos : (z : ℕ) → z ≤ 9 → 0 < 1 * 2 ^ z % 4294967296
+pub one-up-pos : (z : ℕ) → z ≤ 9 → 0 < 1 * 2 ^ z % 18446744073709551616
 one-up-pos z h = subst (λ (n : ℕ). 0 < n) (sym (one-up z h)) (pow-pos z)
 
 -- a character that begins in byte k, with so many bits of the next byte after it

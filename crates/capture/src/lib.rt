@@ -9,10 +9,10 @@ ghost use Rattle.capture_rules.specs.Calls.{says, countSays, characterSays};
 // The most bytes that a capture has.
 const MOST_BYTES: usize = 65535;
 
-fn wide8(x: u8) -> u32
+fn wide8(x: u8) -> usize
     ensures { λ r. ⌜ r ≡ x ⌝ }
 {
-    x as u32
+    x as usize
 }
 
 // Whether a capture's length is one that is written, and its closing bits, the lowest of the last byte, are zero.
@@ -35,10 +35,10 @@ pub fn is_legal(capture: &[u8]) -> bool
 }
 
 // Ten of the sixteen bits of two bytes, with so many bits after them, 0 to 7.
-pub fn ten_bits(first: u8, second: u8, after: u32) -> u16
+pub fn ten_bits(first: u8, second: u8, after: usize) -> usize
     ensures { λ r. ⌜ r ≡ (first * 256 + second) / 2 ^ (after % 8) % 1024 ⌝ }
 {
-    (((wide8(first) * 256 + wide8(second)) >> (after % 8)) % 1024) as u16
+    ((wide8(first) * 256 + wide8(second)) >> (after % 8)) % 1024
 }
 
 // The ten bits from bit 10 i on, which lie in two bytes; 0 past the last character.
@@ -52,7 +52,7 @@ pub fn character_of(capture: &[u8], i: usize) -> u16
     if capture.len() <= k + 1 {
         return 0;
     }
-    ten_bits(capture[k], capture[k + 1], (6 - 2 * (i % 4)) as u32)
+    ten_bits(capture[k], capture[k + 1], 6 - 2 * (i % 4)) as u16
 }
 
 // How many characters a capture holds.

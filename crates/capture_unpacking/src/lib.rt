@@ -16,10 +16,10 @@ fn store_four(a: u8, b: u8, c: u8, d: u8, e: u8, i: usize, out: &mut [u16])
     ensures { λ r. ⌜ now (out .exit) ≡ set (set (set (set (now (out .entry)) i ((a * 256 + b) / 2 ^ 6 % 1024))
         (i + 1) ((b * 256 + c) / 2 ^ 4 % 1024)) (i + 2) ((c * 256 + d) / 2 ^ 2 % 1024)) (i + 3) ((d * 256 + e) / 2 ^ 0 % 1024) ⌝ }
 {
-    out[i] = ten_bits(a, b, 6);
-    out[i + 1] = ten_bits(b, c, 4);
-    out[i + 2] = ten_bits(c, d, 2);
-    out[i + 3] = ten_bits(d, e, 0);
+    out[i] = ten_bits(a, b, 6) as u16;
+    out[i + 1] = ten_bits(b, c, 4) as u16;
+    out[i + 2] = ten_bits(c, d, 2) as u16;
+    out[i + 3] = ten_bits(d, e, 0) as u16;
 }
 
 // So many fours, each read before its first character is stored.

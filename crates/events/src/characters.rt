@@ -14,8 +14,8 @@ pub(crate) fn character_in(capture: &[u8], i: usize) -> usize
     requires { ⌜ (length (now capture) ≤ 65535) × (i < characterCount (length (now capture))) ⌝ }
     ensures { λ r. ⌜ r ≡ getD (charactersOf (now (capture .entry))) i 0 ⌝ }
 {
-    let k = i + i / 4;
-    capture::ten_bits(capture[k], capture[k + 1], (6 - 2 * (i % 4)) as u32) as usize
+    let k = 10 * i / 8;
+    capture::ten_bits(capture[k], capture[k + 1], 6 - 10 * i % 8)
 }
 
 // The result that an entry holds for a disparity.

@@ -43,11 +43,11 @@ mul-ten-bits c = omega arith
 sub-ten-bits : tie.Need-sub-ten-bits
 sub-ten-bits c = omega arith
 
-cast-ten-bits : tie.Need-cast-ten-bits
-cast-ten-bits c = search needs
-
 ten-bits-requires : tie.Need-ten-bits-requires
 ten-bits-requires c κs = search needs
+
+cast-result : tie.Need-cast-result
+cast-result c = search needs
 
 returns-3 : tie.Need-returns-3
 returns-3 c = let s = c .before .before .before .before .before .before in
@@ -70,6 +70,6 @@ character-of-spec =
     shared-slice-read-ten-bits-2
     mul-ten-bits
     sub-ten-bits
-    cast-ten-bits
     ten-bits-requires
+    cast-result
     returns-3)

@@ -31,9 +31,6 @@ shared-slice-read-wide8 c = search needs
 wide8-requires : tie.Need-wide8-requires
 wide8-requires c κs = search needs
 
-cast-result : tie.Need-cast-result
-cast-result c = search needs
-
 shl-result : tie.Need-shl-result
 shl-result c = search needs
 
@@ -56,7 +53,6 @@ is-legal-spec =
     sub-wide8
     shared-slice-read-wide8
     wide8-requires
-    cast-result
     shl-result
     rem-result
     returns-4)

@@ -21,13 +21,10 @@ add-result c = search needs
 shr-result : tie.Need-shr-result
 shr-result c = search needs
 
-cast-result : tie.Need-cast-result
-cast-result c = search needs
-
 returns : tie.Need-returns
 returns c = ap₂ (λ (x y : ℕ). (x * 256 + y) / 2 ^ (c .before .before .args .after % 8) % 1024) (c .before .wide8 .ensures) (c .wide82 .ensures)
 
 pub ten-bits-spec : {M : Type 1} → statement M
 ten-bits-spec =
     tie.close
-    (tie.spec wide8-requires mul-result wide8-requires-2 add-result shr-result cast-result returns)
+    (tie.spec wide8-requires mul-result wide8-requires-2 add-result shr-result returns)

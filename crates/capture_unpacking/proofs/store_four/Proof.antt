@@ -12,6 +12,9 @@ use Rattle.capture_unpacking.proofs.store_four.Tie as tie
 ten-bits-requires : tie.Need-ten-bits-requires
 ten-bits-requires c κs = search needs
 
+cast-out : tie.Need-cast-out
+cast-out c = search needs
+
 mul-out : tie.Need-mul-out
 mul-out c = search needs
 
@@ -20,6 +23,9 @@ slice-write-out c = search needs
 
 ten-bits-requires-2 : tie.Need-ten-bits-requires-2
 ten-bits-requires-2 c κs = search needs
+
+cast-out-2 : tie.Need-cast-out-2
+cast-out-2 c = search needs
 
 add-out : tie.Need-add-out
 add-out c = search needs
@@ -33,6 +39,9 @@ slice-write-out-2 c = simp length-set (omega arith)
 ten-bits-requires-3 : tie.Need-ten-bits-requires-3
 ten-bits-requires-3 c κs = search needs
 
+cast-out-3 : tie.Need-cast-out-3
+cast-out-3 c = search needs
+
 add-out-2 : tie.Need-add-out-2
 add-out-2 c = search needs
 
@@ -44,6 +53,9 @@ slice-write-out-3 c = simp length-set (omega arith)
 
 ten-bits-requires-4 : tie.Need-ten-bits-requires-4
 ten-bits-requires-4 c κs = search needs
+
+cast-out-4 : tie.Need-cast-out-4
+cast-out-4 c = search needs
 
 add-out-3 : tie.Need-add-out-3
 add-out-3 c = search needs
@@ -68,17 +80,21 @@ store-four-spec =
     tie.close
     (tie.spec
     ten-bits-requires
+    cast-out
     mul-out
     slice-write-out
     ten-bits-requires-2
+    cast-out-2
     add-out
     mul-out-2
     slice-write-out-2
     ten-bits-requires-3
+    cast-out-3
     add-out-2
     mul-out-3
     slice-write-out-3
     ten-bits-requires-4
+    cast-out-4
     add-out-3
     mul-out-4
     slice-write-out-4

@@ -9,8 +9,8 @@ use Rattle.capture.proofs.Facts.{in-bytes}
 use Rattle.events.proofs.characters.character_in.Statement.{statement}
 use Rattle.events.proofs.characters.character_in.Tie as tie
 
-add-k : tie.Need-add-k
-add-k c = search needs
+mul-k : tie.Need-mul-k
+mul-k c = search needs
 
 shared-slice-read-ten-bits : tie.Need-shared-slice-read-ten-bits
 shared-slice-read-ten-bits c = search needs
@@ -27,14 +27,8 @@ mul-ten-bits c = search needs
 sub-ten-bits : tie.Need-sub-ten-bits
 sub-ten-bits c = search needs
 
-cast-ten-bits : tie.Need-cast-ten-bits
-cast-ten-bits c = search needs
-
 ten-bits-requires : tie.Need-ten-bits-requires
 ten-bits-requires c κs = search needs
-
-cast-result : tie.Need-cast-result
-cast-result c = search needs
 
 returns : tie.Need-returns
 returns c = let s = c .before .before .before .before in
@@ -42,19 +36,17 @@ returns c = let s = c .before .before .before .before in
     let i = s .args .i in
     let t = below-at 256 bytes (λ j. c .before .shared-slice-known3 .given j .fits) in
     c .ten-bits .ensures
-    ∙ in-bytes bytes t i (i + i / 4) (i + i / 4 + 1) (6 - 2 * (i % 4)) (omega arith) (omega arith) (omega arith) (s .pre .1)
+    ∙ in-bytes bytes t i (10 * i / 8) (10 * i / 8 + 1) (6 - 10 * i % 8) (omega arith) (omega arith) (omega arith) (s .pre .1)
 
 pub character-in-spec : {M : Type 1} → statement M
 character-in-spec =
     tie.close
     (tie.spec
-    add-k
+    mul-k
     shared-slice-read-ten-bits
     add-ten-bits
     shared-slice-read-ten-bits-2
     mul-ten-bits
     sub-ten-bits
-    cast-ten-bits
     ten-bits-requires
-    cast-result
     returns)
