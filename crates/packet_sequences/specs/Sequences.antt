@@ -13,26 +13,24 @@ use Rattle.packet_rules.specs.declared.Event.{Event}
 use Rattle.packet_rules.specs.declared.Event.the-variants.{Nothing, Lmp, Violation}
 use Rattle.packet_rules.specs.declared.Reader.{Reader}
 use Rattle.packet_rules.specs.declared.Step.{Step}
-use Rattle.packet_answers.specs.Answers.{movedTo, violatedTo, startedData, startedPriority}
-use Rattle.packet_ends.specs.Ends.{closingOf, crcOf}
+use Rattle.packet_rules.specs.State.{openingByte}
+use Rattle.packet_answers.specs.Answers.{movedTo, violatedTo, closedTo, startedData, startedPriority}
+use Rattle.packet_ends.specs.Ends.{endOf}
 
 -- ---- the byte that a begun sequence is due
 
 abbrev pub lmpOf : ℕ → ℕ → Event
 lmpOf t n = cond (ltb n 16) (cond (eqb t 0x20) (Lmp false n) (cond (eqb t 0x21) (Lmp true n) Nothing)) Nothing
 
-abbrev pub lmpCheckOf : ℕ → ℕ → ℕ → Reader → Step
-lmpCheckOf t n b r = movedTo (cond (eqb b (bitXor t n)) (lmpOf t n) (Violation 7)) Free r
-
 unfoldable pub dueOf : Due → ℕ → Reader → Step
 dueOf Channel b r = startedData b r
 dueOf Opening b r = startedPriority b r
-dueOf (Closing bad) b r = closingOf bad b r
+dueOf (Closing bad) b r = cond (eqb b (openingByte (r .packet) (r .priority))) (movedTo Nothing (Next (FirstCrc bad)) r) (violatedTo 5 r)
 dueOf (FirstCrc bad) b r = movedTo Nothing (Next (SecondCrc bad b)) r
-dueOf (SecondCrc bad a) b r = crcOf bad a b r
+dueOf (SecondCrc bad a) b r = closedTo (endOf (r .packet) (r .priority) bad a b) r (r .priority)
 dueOf LmpType b r = movedTo Nothing (Next (LmpNumber b)) r
 dueOf (LmpNumber t) b r = movedTo Nothing (Next (LmpCheck t b)) r
-dueOf (LmpCheck t n) b r = lmpCheckOf t n b r
+dueOf (LmpCheck t n) b r = movedTo (cond (eqb b (bitXor t n)) (lmpOf t n) (Violation 7)) Free r
 
 unfoldable pub seqOf : Due → Kind → Reader → Step
 seqOf due (Data b) r = dueOf due b r

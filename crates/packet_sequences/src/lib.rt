@@ -6,7 +6,7 @@ use packet_rules::Phase;
 use packet_rules::Reader;
 use packet_rules::Step;
 ghost use mathlib.Core.Path.{_≡_};
-ghost use Rattle.packet_sequences.specs.Sequences.{lmpOf, lmpCheckOf, dueOf, seqOf};
+ghost use Rattle.packet_sequences.specs.Sequences.{lmpOf, dueOf, seqOf};
 
 // What a right LMP gives: its first two bytes, type and parameter, and reserved and number.
 fn lmp(t: u8, n: u8) -> Event
@@ -29,37 +29,44 @@ fn lmp(t: u8, n: u8) -> Event
     }
 }
 
-// An LMP's check byte, b.
-fn lmp_check(r: Reader, t: u8, n: u8, b: u8) -> Step
-    ensures { λ s. ⌜ s ≡ lmpCheckOf t n b r ⌝ }
-{
-    if b == t ^ n {
-        packet_answers::moved(lmp(t, n), Phase::Free, r)
-    } else {
-        packet_answers::moved(Event::Violation(7), Phase::Free, r)
-    }
-}
-
 fn due_byte(r: Reader, due: Due, b: u8) -> Step
     ensures { λ s. ⌜ s ≡ dueOf due b r ⌝ }
 {
+    let d = r.packet;
+    let p = r.priority;
     match due {
         Due::Channel => packet_answers::started_data(b, r),
         Due::Opening => packet_answers::started_priority(b, r),
-        Due::Closing(bad) => packet_ends::closing_byte(r, bad, b),
+        Due::Closing(bad) => {
+            if b == packet_open::opening_byte(d, p) {
+                packet_answers::moved(Event::Nothing, Phase::Next(Due::FirstCrc(bad)), r)
+            } else {
+                packet_answers::violated(5, r)
+            }
+        }
         Due::FirstCrc(bad) => packet_answers::moved(
             Event::Nothing,
             Phase::Next(Due::SecondCrc(bad, b)),
             r,
         ),
-        Due::SecondCrc(bad, a) => packet_ends::second_crc(r, bad, a, b),
+        Due::SecondCrc(bad, a) => packet_answers::closed(
+            packet_ends::end_event(d, p, bad, a, b),
+            r,
+            p,
+        ),
         Due::LmpType => packet_answers::moved(Event::Nothing, Phase::Next(Due::LmpNumber(b)), r),
         Due::LmpNumber(t) => packet_answers::moved(
             Event::Nothing,
             Phase::Next(Due::LmpCheck(t, b)),
             r,
         ),
-        Due::LmpCheck(t, n) => lmp_check(r, t, n, b),
+        Due::LmpCheck(t, n) => {
+            if b == t ^ n {
+                packet_answers::moved(lmp(t, n), Phase::Free, r)
+            } else {
+                packet_answers::moved(Event::Violation(7), Phase::Free, r)
+            }
+        }
     }
 }
 
