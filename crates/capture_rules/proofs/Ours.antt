@@ -27,10 +27,13 @@ done cs old p room = pack-done cs old (p .few) (T-true (allBelow 1024 cs) (p .sm
 
 -- the bytes that packing writes
 written : (cs old : List ℕ) → Packable cs → byteCount (length cs) ≤ length old → take (byteCount (length cs)) (packLeaves cs old) ≡ packOf cs
-written cs old p room = ap (take (byteCount (length cs))) (done cs old p room .output) ∙ take-at (packOf cs) (drop (byteCount (length cs)) old) (byteCount (length cs)) (pack-length cs)
+written cs old p room =
+    ap (take (byteCount (length cs))) (done cs old p room .output)
+    ∙ take-at (packOf cs) (drop (byteCount (length cs)) old) (byteCount (length cs)) (pack-length cs)
 
 -- the characters that unpacking writes
-given : (capture old : List ℕ) → T (legal capture) → characterCount (length capture) ≤ length old → take (characterCount (length capture)) (unpackLeaves capture old) ≡ charactersOf capture
+given : (capture old : List ℕ) → T (legal capture) → characterCount (length capture) ≤ length old
+    → take (characterCount (length capture)) (unpackLeaves capture old) ≡ charactersOf capture
 given capture old l room =
     ap (take (characterCount (length capture))) (unpack-done capture old (T-true (legal capture) l) room .output)
     ∙ take-at (charactersOf capture) (drop (characterCount (length capture)) old) (characterCount (length capture)) (characters-length capture)

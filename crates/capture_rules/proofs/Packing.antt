@@ -24,7 +24,9 @@ length-filled : (cs : List ℕ) → length (filled cs) ≡ 8 * byteCount (length
 length-filled cs = simp (length-append, length-bitsOf, length-replicate) (omega arith)
 
 filled-below : (cs : List ℕ) → T (allBelow 2 (filled cs))
-filled-below cs = all-append (λ (b : ℕ). ltb b 2) (bitsOf 10 cs) _ (bitsOf-below 10 cs) (all-replicate (λ (b : ℕ). ltb b 2) (8 * byteCount (length cs) - 10 * length cs) 0 tt)
+filled-below cs =
+    all-append (λ (b : ℕ). ltb b 2) (bitsOf 10 cs) _ (bitsOf-below 10 cs)
+    (all-replicate (λ (b : ℕ). ltb b 2) (8 * byteCount (length cs) - 10 * length cs) 0 tt)
 
 -- the number of bytes
 pub pack-length : (cs : List ℕ) → length (packOf cs) ≡ byteCount (length cs)
@@ -112,7 +114,8 @@ module _ (cs bytes : List ℕ) (p : Packed cs bytes) where
   unfolding legal
   packed-legal h =
       and-both (short bytes) (whole bytes && clean bytes) (le→leb (length bytes) 65535 h)
-      (and-both (whole bytes) (clean bytes) (not-T (eqb (length bytes % 5) 1) (λ t. never-one (length bytes) (length cs) (p .closing) packed-sizes (p .fewer) (eqb→eq (length bytes % 5) 1 t))) packed-zeros)
+      (and-both (whole bytes) (clean bytes) (not-T (eqb (length bytes % 5) 1)
+      (λ t. never-one (length bytes) (length cs) (p .closing) packed-sizes (p .fewer) (eqb→eq (length bytes % 5) 1 t))) packed-zeros)
 
 module _ (bytes : List ℕ) (l : T (legal bytes)) where
   pub legal-size : length bytes ≤ 65535
@@ -121,7 +124,9 @@ module _ (bytes : List ℕ) (l : T (legal bytes)) where
 
   pub legal-length : length bytes % 5 ≡ 1 → ⊥
   unfolding legal
-  legal-length e = T-not (eqb (length bytes % 5) 1) (and-left (whole bytes) (clean bytes) (and-right (short bytes) (whole bytes && clean bytes) l)) (subst (λ (n : ℕ). T (eqb n 1)) (sym e) tt)
+  legal-length e =
+      T-not (eqb (length bytes % 5) 1) (and-left (whole bytes) (clean bytes) (and-right (short bytes) (whole bytes && clean bytes) l))
+      (subst (λ (n : ℕ). T (eqb n 1)) (sym e) tt)
 
   legal-zeros : T (allZero (closingBits bytes))
   unfolding legal
@@ -129,7 +134,9 @@ module _ (bytes : List ℕ) (l : T (legal bytes)) where
 
   closing-line : closingBits bytes ≡ replicate (8 * length bytes - 10 * characterCount (length bytes)) 0
   unfolding closingBits
-  closing-line = zeros-line (closingBits bytes) legal-zeros ∙ ap (λ (n : ℕ). replicate n 0) (length-drop (10 * characterCount (length bytes)) (bitsOf 8 bytes) ∙ ap (λ (n : ℕ). n - 10 * characterCount (length bytes)) (length-bitsOf 8 bytes))
+  closing-line =
+      zeros-line (closingBits bytes) legal-zeros ∙ ap (λ (n : ℕ). replicate n 0) (length-drop (10 * characterCount (length bytes)) (bitsOf 8 bytes)
+      ∙ ap (λ (n : ℕ). n - 10 * characterCount (length bytes)) (length-bitsOf 8 bytes))
 
   -- a legal capture is its characters packed
   pub legal-packed : Packed (charactersOf bytes) bytes

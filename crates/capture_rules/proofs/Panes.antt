@@ -100,10 +100,12 @@ module _ (capture : List ℕ) where
 
   -- a move says truly whether it moved: then the place is the next one, and else it is as it was
   tells : (checks : List Check) (place next : ℕ) (free : Bool)
-      → (outcome checks (stayed place) (cond free (movedTo next) (stayed place 0))) .place ≡ cond ((outcome checks (stayed place) (cond free (movedTo next) (stayed place 0))) .moved) next place
+      → (outcome checks (stayed place) (cond free (movedTo next) (stayed place 0))) .place ≡ cond
+      ((outcome checks (stayed place) (cond free (movedTo next) (stayed place 0))) .moved) next place
   tells checks place next free = go (eqb (refusalOf checks) 0) free
     where
-      go : (b f : Bool) → (cond b (cond f (movedTo next) (stayed place 0)) (stayed place (refusalOf checks))) .place ≡ cond ((cond b (cond f (movedTo next) (stayed place 0)) (stayed place (refusalOf checks))) .moved) next place
+      go : (b f : Bool) → (cond b (cond f (movedTo next) (stayed place 0)) (stayed place (refusalOf checks))) .place ≡ cond
+          ((cond b (cond f (movedTo next) (stayed place 0)) (stayed place (refusalOf checks))) .moved) next place
       go true true = refl
       go true false = refl
       go false f = refl

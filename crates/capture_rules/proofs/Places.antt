@@ -49,8 +49,10 @@ filled-up cs =
     let ten : 10 ≡ z + (10 - z) = omega arith in
     let zeros : bits 10 0 ++ [] ≡ replicate z 0 ++ replicate (10 - z) 0 =
     append-nil (bits 10 0) ∙ bits-zero 10 ∙ ap (λ (n : ℕ). replicate n 0) ten ∙ sym (replicate-append-replicate z (10 - z) 0) in
-    sym (numbers-front 8 (byteCount (length cs)) (bitsOf 10 cs ++ replicate z 0) (replicate (10 - z) 0) (simp (length-append, length-bitsOf, length-replicate) (omega arith)))
-    ∙ ap (numbers 8 (byteCount (length cs))) (append-assoc (bitsOf 10 cs) (replicate z 0) (replicate (10 - z) 0) ∙ ap (λ (l : List ℕ). bitsOf 10 cs ++ l) (sym zeros) ∙ sym (bitsOf-append 10 cs (0 ∷ [])))
+    sym (numbers-front 8 (byteCount (length cs)) (bitsOf 10 cs ++ replicate z 0) (replicate (10 - z) 0)
+    (simp (length-append, length-bitsOf, length-replicate) (omega arith)))
+    ∙ ap (numbers 8 (byteCount (length cs))) (append-assoc (bitsOf 10 cs) (replicate z 0) (replicate (10 - z) 0)
+    ∙ ap (λ (l : List ℕ). bitsOf 10 cs ++ l) (sym zeros) ∙ sym (bitsOf-append 10 cs (0 ∷ [])))
 
 pub byte-by-place : (cs : List ℕ) → T (allBelow 1024 cs) → (k : ℕ) → k < byteCount (length cs) → getD (packOf cs) k 0 ≡ byteAt cs k
 byte-by-place cs t k h =
@@ -62,7 +64,8 @@ byte-by-place cs t k h =
     ap (λ (l : List ℕ). getD l k 0) (filled-up cs)
     ∙ getD-numbers 8 (byteCount (length cs)) (bitsOf 10 (cs ++ 0 ∷ [])) k h
     ∙ ap (λ (j : ℕ). number (take 8 (drop j (bitsOf 10 (cs ++ 0 ∷ []))))) b
-    ∙ ap number (window 10 8 i o (12 - o) (cs ++ 0 ∷ []) (omega arith) (subst (λ (n : ℕ). n < 1024) (sym (past cs (i + 1))) (getD-below 1024 cs (omega arith) t (i + 1))) (omega arith))
+    ∙ ap number (window 10 8 i o (12 - o) (cs ++ 0 ∷ []) (omega arith)
+    (subst (λ (n : ℕ). n < 1024) (sym (past cs (i + 1))) (getD-below 1024 cs (omega arith) t (i + 1))) (omega arith))
     ∙ number-bits 8 _
     ∙ ap₂ (λ (x y : ℕ). (x * 1024 + y) / 2 ^ (12 - o) % 256) (past cs i) (past cs (i + 1))
 

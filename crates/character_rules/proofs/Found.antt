@@ -77,7 +77,8 @@ found-in : (f : Symbol → Bool) (ss : List Symbol) (c : ℕ) (d : ℤ) (s : Sym
 found-in f [] c d s t e = let z : _≡_ {A = ℕ} 0 1 = cc in absurd (omega arith)
 found-in f (r ∷ rs) c d s t e = go (found-in f rs c d s (and-right (f r) (allOf f rs) t)) (eqb (character r d) c) refl e
   where
-    go : (firstWith rs c d ≡ some s → T (f s) × (character s d ≡ c)) → (b : Bool) → eqb (character r d) c ≡ b → cond b (some r) (firstWith rs c d) ≡ some s → T (f s) × (character s d ≡ c)
+    go : (firstWith rs c d ≡ some s → T (f s) × (character s d ≡ c)) → (b : Bool) → eqb (character r d) c ≡ b
+        → cond b (some r) (firstWith rs c d) ≡ some s → T (f s) × (character s d ≡ c)
     go later true g h =
         let q : r ≡ s = cc in
         (subst (λ (x : Symbol). T (f x)) q (and-left (f r) (allOf f rs) t), subst (λ (x : Symbol). character x d ≡ c) q (eqb→eq (character r d) c (subst T (sym g) tt)))

@@ -28,7 +28,8 @@ use Rattle.character_rules.proofs.Steps.{State, next, kept, atEnd, ends
 -- ---- the machine passes the whole line
 
 -- the line of a list that can be written, its first character apart
-pub line-of : (s : Symbol) (ss : List Symbol) (d : ℤ) → T (canWrite s) → T (isDisparity d) → line writing (s ∷ ss) d ≡ bits 10 (character s d) ++ line writing ss (closing s d)
+pub line-of : (s : Symbol) (ss : List Symbol) (d : ℤ) → T (canWrite s) → T (isDisparity d)
+    → line writing (s ∷ ss) d ≡ bits 10 (character s d) ++ line writing ss (closing s d)
 line-of s ss d h t = ap (λ (w : Writing). tenBits (w .character) ++ line writing ss (newDisparity d (w .disparity))) (writes s d h t)
 
 passes-line : (ss : List Symbol) (d : ℤ) (u : State) → T (allOf canWrite ss) → T (isDisparity d) → T (atEnd d u) → T (passes next kept u (line writing ss d) (λ v. true))
@@ -86,7 +87,8 @@ run-of s x (suc n) ys t =
 within : (ss : List Symbol) (d : ℤ) → T (allOf canWrite ss) → T (isDisparity d) → (n : ℕ) → T (withinThree (balance d (take n (line writing ss d))))
 within ss d a t = balanced (start d) (line writing ss d) (both-ways (λ (z : ℤ). T (withinThree z)) tt tt d t) (from-start ss d a t)
 
-runs : (ss : List Symbol) (d : ℤ) → T (allOf canWrite ss) → T (isDisparity d) → (before : List ℕ) (n x : ℕ) (after : List ℕ) → line writing ss d ≡ before ++ (replicate n x ++ after) → n ≤ 5
+runs : (ss : List Symbol) (d : ℤ) → T (allOf canWrite ss) → T (isDisparity d) → (before : List ℕ) (n x : ℕ) (after : List ℕ)
+    → line writing ss d ≡ before ++ (replicate n x ++ after) → n ≤ 5
 runs ss d a t before n x after e =
     let s = passes-later next kept (start d) before (replicate n x ++ after) (λ u. true)
     (subst (λ (l : List ℕ). T (passes next kept (start d) l (λ u. true))) e (from-start ss d a t)) in

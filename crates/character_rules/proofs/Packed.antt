@@ -89,9 +89,19 @@ module _ (c : ℕ) (d : ℤ) (h : c ≤ 1023) (t : T (isDisparity d)) where
 back : (r : Reading) → Sound r → unpacked (packed r) ≡ r
 unfolding packed unpacked
 back _ (sound-clean s d h t) =
-    simp (part-violation (s .byte) (s .control) 0 (isPlus d) h (omega arith), part-symbol (s .byte) (s .control) 0 (isPlus d) h (omega arith), part-disparity (s .byte) (s .control) 0 (isPlus d) h (omega arith), by-sign d t)
+    simp (
+      part-violation (s .byte) (s .control) 0 (isPlus d) h (omega arith),
+      part-symbol (s .byte) (s .control) 0 (isPlus d) h (omega arith),
+      part-disparity (s .byte) (s .control) 0 (isPlus d) h (omega arith),
+      by-sign d t,
+    )
 back _ (sound-wrong s d h t) =
-    simp (part-violation (s .byte) (s .control) 2 (isPlus d) h (omega arith), part-symbol (s .byte) (s .control) 2 (isPlus d) h (omega arith), part-disparity (s .byte) (s .control) 2 (isPlus d) h (omega arith), by-sign d t)
+    simp (
+      part-violation (s .byte) (s .control) 2 (isPlus d) h (omega arith),
+      part-symbol (s .byte) (s .control) 2 (isPlus d) h (omega arith),
+      part-disparity (s .byte) (s .control) 2 (isPlus d) h (omega arith),
+      by-sign d t,
+    )
 back _ (sound-invalid d t) =
     simp (part-violation 0 false 1 (isPlus d) (omega arith) (omega arith), part-disparity 0 false 1 (isPlus d) (omega arith) (omega arith), by-sign d t)
 

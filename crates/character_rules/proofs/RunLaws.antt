@@ -35,7 +35,8 @@ module _ (cs : List ℕ) (d : ℤ) (out : List ℕ) where
   outputBy p q s = left (checksBy p q s) out (runResults cs d ++ drop (length cs) out)
 
   -- the two sides of the contract, by the three tests
-  by-tests : {p q s : Bool} → isDisparity d ≡ p → allOf inRange cs ≡ q → ltb (length out) (length cs) ≡ s → (answerBy p q s ≡ runReading cs d (length out)) × (outputBy p q s ≡ runOutput cs d out)
+  by-tests : {p q s : Bool} → isDisparity d ≡ p → allOf inRange cs ≡ q → ltb (length out) (length cs) ≡ s
+      → (answerBy p q s ≡ runReading cs d (length out)) × (outputBy p q s ≡ runOutput cs d out)
   unfolding runReading runOutput
   by-tests e f g = (sym (λ i. answerBy (e i) (f i) (g i)), sym (λ i. outputBy (e i) (f i) (g i)))
 
@@ -48,7 +49,8 @@ module _ (cs : List ℕ) (d : ℤ) (out : List ℕ) where
   pub run-short : isDisparity d ≡ true → allOf inRange cs ≡ true → length out < length cs → (notRunRead 6 ≡ runReading cs d (length out)) × (out ≡ runOutput cs d out)
   run-short e f h = by-tests e f (lt-ltb (length out) (length cs) h)
 
-  pub run-done : isDisparity d ≡ true → allOf inRange cs ≡ true → length cs ≤ length out → (runRead (runClosing cs d) ≡ runReading cs d (length out)) × (runResults cs d ++ drop (length cs) out ≡ runOutput cs d out)
+  pub run-done : isDisparity d ≡ true → allOf inRange cs ≡ true → length cs ≤ length out → (runRead (runClosing cs d) ≡ runReading cs d (length out))
+      × (runResults cs d ++ drop (length cs) out ≡ runOutput cs d out)
   run-done e f h = by-tests e f (le-ltb (length out) (length cs) h)
 
   -- a refused run leaves the output as it stood
@@ -126,7 +128,8 @@ pub record Reached (cs : List ℕ) (d : ℤ) (old : List ℕ) (i : ℕ) (out : L
 pub at-start : (cs : List ℕ) (plus : Bool) (out : List ℕ) → Reached cs (disparityOf plus) out 0 out plus
 at-start cs plus out = record { place = omega arith; room = refl; results = refl; rest = refl; ends = refl }
 
-module _ (cs : List ℕ) (d : ℤ) (old : List ℕ) (i : ℕ) (out : List ℕ) (plus : Bool) (r : ℕ) (reached : Reached cs d old i out plus) (h : i < length cs) (g : getD cs i 0 < 1024) (fits : length cs ≤ length old) (e : r ≡ packed (reading (getD cs i 0) (disparityOf plus))) where
+module _ (cs : List ℕ) (d : ℤ) (old : List ℕ) (i : ℕ) (out : List ℕ) (plus : Bool) (r : ℕ) (reached : Reached cs d old i out plus)
+    (h : i < length cs) (g : getD cs i 0 < 1024) (fits : length cs ≤ length old) (e : r ≡ packed (reading (getD cs i 0) (disparityOf plus))) where
   next : afterOne (getD cs i 0) (disparityOf plus) ≡ disparityOf (leb 2048 r)
   next = next-read (getD cs i 0) plus r g e
 
@@ -135,7 +138,8 @@ module _ (cs : List ℕ) (d : ℤ) (old : List ℕ) (i : ℕ) (out : List ℕ) (
       ap (λ (l : List ℕ). runResults l (disparityOf plus)) (drop-cons cs i 0 h)
       ∙ ap₂ (λ (k : ℕ) (z : ℤ). k ∷ runResults (drop (suc i) cs) z) (sym e) next
 
-  stored : take i out ++ (r ∷ runResults (drop (suc i) cs) (disparityOf (leb 2048 r))) ≡ take (suc i) (set out i r) ++ runResults (drop (suc i) cs) (disparityOf (leb 2048 r))
+  stored : take i out ++ (r ∷ runResults (drop (suc i) cs) (disparityOf (leb 2048 r))) ≡ take (suc i) (set out i r) ++ runResults (drop (suc i) cs)
+      (disparityOf (leb 2048 r))
   stored =
       let room = reached .room in
       let ys = runResults (drop (suc i) cs) (disparityOf (leb 2048 r)) in
@@ -157,7 +161,8 @@ plus-is true = refl
 plus-is false = refl
 
 -- the whole run
-pub at-end : (cs : List ℕ) (d : ℤ) (old : List ℕ) (i : ℕ) (out : List ℕ) (plus : Bool) → Reached cs d old i out plus → i ≡ length cs → (plus ≡ isPlus (runClosing cs d)) × (out ≡ runResults cs d ++ drop (length cs) old)
+pub at-end : (cs : List ℕ) (d : ℤ) (old : List ℕ) (i : ℕ) (out : List ℕ) (plus : Bool) → Reached cs d old i out plus → i ≡ length cs
+    → (plus ≡ isPlus (runClosing cs d)) × (out ≡ runResults cs d ++ drop (length cs) old)
 at-end cs d old i out plus reached e =
     let n = length cs in
     let none : drop i cs ≡ [] = ap (λ (k : ℕ). drop k cs) e ∙ drop-length cs in (

@@ -199,7 +199,10 @@ nack-heard s k h = ap (λ (a : Answered). a .sender) (reply-done s true k h)
 
 pub damaged-heard : (s : Sender) → hearing s damaged-reply ≡ s
 unfolding hearing damagedReplyOf
-damaged-heard s = by-cases (λ (a : Answered). a .sender ≡ s) (eqb (refusalOf (senderChecks s)) 0) {x = record { refusal = 0; sender = s }} {y = refusedSender s (refusalOf (senderChecks s))} (λ _. refl) (λ _. refl)
+damaged-heard s =
+    by-cases (λ (a : Answered). a .sender ≡ s)
+    (eqb (refusalOf (senderChecks s)) 0) {x = record { refusal = 0; sender = s }} {y = refusedSender s (refusalOf (senderChecks s))} (λ _. refl)
+    (λ _. refl)
 
 pub ticks : (s : Sender) → Sound s → tickOf s .sender ≡ withCounters s (ticked (s .counters))
 ticks s h = ap (λ (a : Ticked). a .sender) (tick-done s h)

@@ -62,7 +62,13 @@ module _ (S : ℕ) (w : World ours) where
       let due = due-is S w v here in
       let slot-lt : dueSlot c < 8 = omega arith in
       let long′ : heldLength s (dueSlot c) ≤ length output =
-      omega (arith, held-length s (w .buffers) (dueSlot c) lent slot-lt most, ap (λ (x : Content). length (x .bytes)) due, ap (λ (i : ℕ). length (getD (w .seen .accepted) i noContent .bytes)) q, long) in
+      omega (
+        arith,
+        held-length s (w .buffers) (dueSlot c) lent slot-lt most,
+        ap (λ (x : Content). length (x .bytes)) due,
+        ap (λ (i : ℕ). length (getD (w .seen .accepted) i noContent .bytes)) q,
+        long,
+      ) in
       let passes = send-passes s (length (w .buffers)) (length output) (record { sound = sound; buffers = lent; long = λ _. long′ }) in
       send-either s (w .buffers) output (λ (a : Sending Sender). Inv S (sent ours w a) → Ours S (suc j) (sent ours w a))
       (λ _ t inv.

@@ -127,7 +127,8 @@ module _ (S : ℕ) (w : World ours) (v : Inv S w) where
       (λ p.
       let next = ltb-false (c .point) (c .outstanding) p in
       let at : c .point ≡ c .outstanding = omega arith in
-      let yes = eq-eqb (sendPoint c) (g .gone % 16) (ap (λ (k : ℕ). (k + c .point) % 16) (u .oldest) ∙ same-number (g .released) (c .point) ∙ ap (λ (k : ℕ). (g .released + k) % 16) at ∙ ap (λ (k : ℕ). k % 16) (sym (u .outstanding))) in
+      let yes = eq-eqb (sendPoint c) (g .gone % 16) (ap (λ (k : ℕ). (k + c .point) % 16) (u .oldest) ∙ same-number (g .released) (c .point)
+      ∙ ap (λ (k : ℕ). (g .released + k) % 16) at ∙ ap (λ (k : ℕ). k % 16) (sym (u .outstanding))) in
       cond-true (isNext g (sendPoint c)) (g .gone + 1) (g .gone)
       (both-true (ltb (g .gone) (length (g .accepted))) _ (lt-ltb (g .gone) (length (g .accepted)) (omega arith)) yes)
       ∙ omega arith)

@@ -137,7 +137,11 @@ module _ (E : Ends) where
     still (offer x) w p = record { line = p .line; nothing = p .nothing }
     still (send output) w p =
         let a = E .send (w .sender) (w .buffers) output in
-        record { line = ap (λ (b : Bool). joined (w .forward) b (segment (a .number) (a .content))) (none (w .sender) (w .buffers) output) ∙ p .line; nothing = p .nothing }
+        record {
+          line = ap (λ (b : Bool). joined (w .forward) b (segment (a .number) (a .content))) (none (w .sender) (w .buffers) output)
+              ∙ p .line;
+          nothing = p .nothing;
+        }
     still (arrive room output) w p = subst (λ (l : List Item). Still (arrives E w room output l)) (sym (p .line)) p
     still (lose n) w p = record { line = ap (λ (l : List Item). without l n) (p .line); nothing = p .nothing }
     still (damage n) w p = record { line = ap (λ (l : List Item). set l n damaged) (p .line); nothing = p .nothing }

@@ -143,7 +143,8 @@ module _ (really : Bool) where
         let mine : k ≡ s .released % 16 = q ∙ ap (λ (o : ℕ). o % 16) (sym (u .released)) in
         let zero = none-ahead really k (s .released) mine in
         let hears-it = cond-false (idle s) s _ (busy s (omega arith) (omega arith))
-        ∙ cond-true (ltb (ahead (ruleChoice really) s k) 1) (plainRelease (ruleChoice really) s (ahead (ruleChoice really) s k + 1)) _ (lt-ltb (ahead (ruleChoice really) s k) 1 (omega arith)) in
+        ∙ cond-true (ltb (ahead (ruleChoice really) s k) 1) (plainRelease (ruleChoice really) s (ahead (ruleChoice really) s k + 1)) _
+        (lt-ltb (ahead (ruleChoice really) s k) 1 (omega arith)) in
         let seen = own-ack g (omega arith) out k q in
         let P : PlainSender → Seen → Type 0 = λ s g. Inv (told (plain (ruleChoice really)) w s rest g) → Re j (told (plain (ruleChoice really)) w s rest g) in
         let there : P (plainRelease (ruleChoice really) s (ahead (ruleChoice really) s k + 1)) (seenWith g (g .gone) (g .released + 1) 0 0) = λ inv.
@@ -192,7 +193,8 @@ module _ (really : Bool) where
     unfolding step
     ticks-on j r quiet =
         tick-either (r .inv) (r .few)
-        (λ s g. g .expiries ≡ w .seen .expiries → Inv (told (plain (ruleChoice really)) w s (w .backward) g) → Re j (told (plain (ruleChoice really)) w s (w .backward) g))
+        (λ s g. g .expiries ≡ w .seen .expiries → Inv (told (plain (ruleChoice really)) w s (w .backward) g)
+        → Re j (told (plain (ruleChoice really)) w s (w .backward) g))
         (λ _ _ _. r)
         (λ _ _ _ inv. record {
           inv = inv;

@@ -86,13 +86,15 @@ module _ (really : Bool) where
     moved-inv :
         (point ticks expiries seen-ticks counted : ℕ) (rest : List Reply) → w .seen .released ≤ point → point ≤ w .seen .gone → ticks < w .seen .columns
         → ticks ≡ seen-ticks → expiries ≡ counted → Line IsAck IsIdle (length (w .seen .delivered)) (w .seen .released) rest
-        → Inv (told (plain (ruleChoice really)) w (moved (w .sender) point ticks expiries) rest (seenWith (w .seen) (w .seen .gone) (w .seen .released) seen-ticks counted))
+        → Inv (told (plain (ruleChoice really)) w (moved (w .sender) point ticks expiries) rest
+        (seenWith (w .seen) (w .seen .gone) (w .seen .released) seen-ticks counted))
     moved-inv point ticks expiries seen-ticks counted rest a b c d e l =
         let u = v .counts in
         record { counts = omega arith; eight = v .eight; prefix = v .prefix; holds-it = v .holds-it; items = v .items; replies = l }
 
     same-inv :
-        (rest : List Reply) → Line IsAck IsIdle (length (w .seen .delivered)) (w .seen .released) rest → Inv (told (plain (ruleChoice really)) w (w .sender) rest (w .seen))
+        (rest : List Reply) → Line IsAck IsIdle (length (w .seen .delivered)) (w .seen .released) rest
+        → Inv (told (plain (ruleChoice really)) w (w .sender) rest (w .seen))
     same-inv rest l =
         record { counts = v .counts; eight = v .eight; prefix = v .prefix; holds-it = v .holds-it; items = v .items; replies = l }
 
@@ -191,10 +193,12 @@ module _ (really : Bool) where
         (λ e.
         let last = eqb-true (s .ticks + 1) (s .columns) e in
         let expires : (p : ℕ) → g .released ≤ p → p ≤ g .gone → P (moved s p 0 (s .expiries + 1)) = λ p lo hi.
-        rw (expiry g (on .0) (on .1) (omega arith)) (moved-inv p 0 (s .expiries + 1) 0 (g .expiries + 1) (w .backward) lo hi (omega arith) refl (omega arith) (v .replies)) in
+        rw (expiry g (on .0) (on .1) (omega arith))
+        (moved-inv p 0 (s .expiries + 1) 0 (g .expiries + 1) (w .backward) lo hi (omega arith) refl (omega arith) (v .replies)) in
         by-cases (λ (p : ℕ). P (moved s p 0 (s .expiries + 1))) (ltb (s .expiries) 2) (λ _. expires (s .released) (omega arith) (omega arith))
         (λ _. expires (s .point) (u .point-ge) (u .point-le)))
         (λ e.
         let more = eqb-false (s .ticks + 1) (s .columns) e in
         rw (plain-tick g (on .0) (on .1) (λ q. omega arith))
-        (moved-inv (s .point) (s .ticks + 1) (s .expiries) (g .ticks + 1) (g .expiries) (w .backward) (u .point-ge) (u .point-le) (omega arith) (omega arith) (u .expiries) (v .replies))))
+        (moved-inv (s .point) (s .ticks + 1) (s .expiries) (g .ticks + 1) (g .expiries) (w .backward) (u .point-ge) (u .point-le) (omega arith)
+        (omega arith) (u .expiries) (v .replies))))

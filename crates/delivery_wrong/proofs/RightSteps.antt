@@ -108,7 +108,8 @@ module _ (really : Bool) where
         ∙ omega arith)
 
     -- the segment at the send point is one that was accepted
-    pub due-is : w .sender .point < w .sender .released + w .sender .stored → getD (w .sender .held) (w .sender .point % 8) noContent ≡ getD (w .seen .accepted) (w .sender .point) noContent
+    pub due-is : w .sender .point < w .sender .released + w .sender .stored
+        → getD (w .sender .held) (w .sender .point % 8) noContent ≡ getD (w .seen .accepted) (w .sender .point) noContent
     due-is h =
         let s = w .sender in
         let g = w .seen in

@@ -5,7 +5,7 @@ use packet_rules::DataPacket;
 use packet_rules::Phase;
 use packet_rules::PriorityPacket;
 use packet_rules::Reader;
-use packet_state::register_in;
+use packet_open::register_in;
 ghost use mathlib.Core.Path.{_≡_};
 ghost use mathlib.Core.Bool.{true};
 ghost use Prim.Native.Nat.{_+_, _≤_, _<_};

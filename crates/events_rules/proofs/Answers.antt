@@ -83,7 +83,13 @@ module _ (capture : List ℕ) (r : Reader) (d : ℤ) (old : List ℕ) (n : ℕ) 
         record { legality = p .0; rule = p .1; signed = p .2; fits = ltb-false (length old) (characterCount (length capture)) (p .3) }
 
     pub read-whole : Comes capture r d old
-        (record { refusal = 0; count = characterCount (length capture); disparity = runClosing (charactersOf capture) d; reader = readerAfter (charactersOf capture) d r })
+        (record {
+          refusal = 0;
+          count = characterCount (length capture);
+          disparity = runClosing (charactersOf capture) d;
+          reader = readerAfter
+              (charactersOf capture) d r;
+        })
         (eventsOf (charactersOf capture) d r ++ drop (characterCount (length capture)) old)
     unfolding captureRead eventsLeft
     read-whole =

@@ -46,11 +46,15 @@ module _ (p : PriorityPacket) (tag opening count register : ℕ) (fits : priorit
 
   priority-count : priorityCount p ≡ count
   unfolding priorityFits
-  priority-count = eqb-true _ _ (first-true (eqb (priorityCount p) count) _ (second-true (eqb (priorityOpening p) opening) _ (second-true (eqb (priorityTag p) tag) _ fits)))
+  priority-count =
+      eqb-true _ _ (first-true (eqb (priorityCount p) count) _
+      (second-true (eqb (priorityOpening p) opening) _ (second-true (eqb (priorityTag p) tag) _ fits)))
 
   priority-register : priorityRegister p ≡ register
   unfolding priorityFits
-  priority-register = eqb-true _ _ (second-true (eqb (priorityCount p) count) _ (second-true (eqb (priorityOpening p) opening) _ (second-true (eqb (priorityTag p) tag) _ fits)))
+  priority-register =
+      eqb-true _ _ (second-true (eqb (priorityCount p) count) _
+      (second-true (eqb (priorityOpening p) opening) _ (second-true (eqb (priorityTag p) tag) _ fits)))
 
 module _ (p : Phase) (tag a b : ℕ) (fits : phaseFits p tag a b ≡ true) where
   phase-tag : phaseTag p ≡ tag
@@ -78,7 +82,8 @@ module _ (b0 b1 b2 b3 b4 b5 b6 b7 b8 b9 b10 b11 b12 b13 b14 : ℕ) (s1 : b1 < 25
   abbrev phase : Phase
   phase = phaseOf b12 b13 b14
 
-  module _ (p : packetFits packet b2 b3 (two b4 b5) ≡ true) (q : priorityFits priority b6 b7 (two b8 b9) (two b10 b11) ≡ true) (r : phaseFits phase b12 b13 b14 ≡ true) where
+  module _ (p : packetFits packet b2 b3 (two b4 b5) ≡ true) (q : priorityFits priority b6 b7 (two b8 b9) (two b10 b11) ≡ true)
+      (r : phaseFits phase b12 b13 b14 ≡ true) where
     part-by-part : readerBytes (readerIn bytes) ≡ bytes
     unfolding readerBytes readerIn
     part-by-part =
@@ -86,8 +91,10 @@ module _ (b0 b1 b2 b3 b4 b5 b6 b7 b8 b9 b10 b11 b12 b13 b14 : ℕ) (s1 : b1 < 25
         (also (its-tag packet b2 b3 (two b4 b5) p) (also (its-channel packet b2 b3 (two b4 b5) p)
         (also (high _ b4 b5 s5 (its-register packet b2 b3 (two b4 b5) p)) (also (low _ b4 b5 s5 (its-register packet b2 b3 (two b4 b5) p))
         (also (priority-tag priority b6 b7 (two b8 b9) (two b10 b11) q) (also (priority-opening priority b6 b7 (two b8 b9) (two b10 b11) q)
-        (also (high _ b8 b9 s9 (priority-count priority b6 b7 (two b8 b9) (two b10 b11) q)) (also (low _ b8 b9 s9 (priority-count priority b6 b7 (two b8 b9) (two b10 b11) q))
-        (also (high _ b10 b11 s11 (priority-register priority b6 b7 (two b8 b9) (two b10 b11) q)) (also (low _ b10 b11 s11 (priority-register priority b6 b7 (two b8 b9) (two b10 b11) q))
+        (also (high _ b8 b9 s9 (priority-count priority b6 b7 (two b8 b9) (two b10 b11) q))
+        (also (low _ b8 b9 s9 (priority-count priority b6 b7 (two b8 b9) (two b10 b11) q))
+        (also (high _ b10 b11 s11 (priority-register priority b6 b7 (two b8 b9) (two b10 b11) q))
+        (also (low _ b10 b11 s11 (priority-register priority b6 b7 (two b8 b9) (two b10 b11) q))
         (also (phase-tag phase b12 b13 b14 r) (also (phase-first phase b12 b13 b14 r) (also (phase-second phase b12 b13 b14 r) refl))))))))))))))
 
   pub reader-same : isReader bytes ≡ true → readerBytes (readerIn bytes) ≡ bytes

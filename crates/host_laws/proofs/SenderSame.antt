@@ -28,18 +28,40 @@ first-same n = by (n % 2) (let h : n % 2 < 2 = omega arith in h)
     by (suc zero) h = refl
     by (suc (suc r)) h = absurd (omega arith)
 
-eight-marks : (n : ℕ) → n < 256 → n % 2 + 2 * (n / 2 % 2 + 2 * (n / 2 / 2 % 2 + 2 * (n / 2 / 2 / 2 % 2 + 2 * (n / 2 / 2 / 2 / 2 % 2 + 2 * (n / 2 / 2 / 2 / 2 / 2 % 2 + 2 * (n / 2 / 2 / 2 / 2 / 2 / 2 % 2 + 2 * (n / 2 / 2 / 2 / 2 / 2 / 2 / 2 % 2 + 2 * 0))))))) ≡ n
+eight-marks : (n : ℕ) → n < 256 → n % 2 + 2 * (n / 2 % 2 + 2 * (n / 2 / 2 % 2 + 2 * (n / 2 / 2 / 2 % 2 + 2 * (n / 2 / 2 / 2 / 2 % 2 + 2 *
+    (n / 2 / 2 / 2 / 2 / 2 % 2 + 2 * (n / 2 / 2 / 2 / 2 / 2 / 2 % 2 + 2 * (n / 2 / 2 / 2 / 2 / 2 / 2 / 2 % 2 + 2 * 0))))))) ≡ n
 eight-marks n h = omega arith
 
 marks-same : (n : ℕ) → n < 256 → maskOf (marksOf n) ≡ n
 unfolding maskOf marksOf
 marks-same n h =
-    simp (first-same n, first-same (n / 2), first-same (n / 2 / 2), first-same (n / 2 / 2 / 2), first-same (n / 2 / 2 / 2 / 2), first-same (n / 2 / 2 / 2 / 2 / 2), first-same (n / 2 / 2 / 2 / 2 / 2 / 2), first-same (n / 2 / 2 / 2 / 2 / 2 / 2 / 2)) (eight-marks n h)
+    simp (
+      first-same n,
+      first-same (n / 2),
+      first-same (n / 2 / 2),
+      first-same (n / 2 / 2 / 2),
+      first-same (n / 2 / 2 / 2 / 2),
+      first-same (n / 2 / 2 / 2 / 2 / 2),
+      first-same (n / 2 / 2 / 2 / 2 / 2 / 2),
+      first-same (n / 2 / 2 / 2 / 2 / 2 / 2 / 2),
+    ) (eight-marks n h)
 
-module _ (b0 b1 b2 b3 b4 b5 b6 b7 b8 b9 b10 b11 b12 b13 b14 b15 b16 b17 b18 b19 b20 b21 b22 b23 b24 b25 b26 b27 b28 b29 b30 b31 b32 b33 b34 b35 b36 b37 : ℕ) (s6 : b6 < 256) (s9 : b9 < 256) (s11 : b11 < 256) (s14 : b14 < 256) (s16 : b16 < 256) (s18 : b18 < 256) (s20 : b20 < 256) (s22 : b22 < 256) (s24 : b24 < 256) (s26 : b26 < 256) (s28 : b28 < 256) (s37 : b37 < 256) where
-  pub sender-same : senderBytes (senderIn (b0 ∷ b1 ∷ b2 ∷ b3 ∷ b4 ∷ b5 ∷ b6 ∷ b7 ∷ b8 ∷ b9 ∷ b10 ∷ b11 ∷ b12 ∷ b13 ∷ b14 ∷ b15 ∷ b16 ∷ b17 ∷ b18 ∷ b19 ∷ b20 ∷ b21 ∷ b22 ∷ b23 ∷ b24 ∷ b25 ∷ b26 ∷ b27 ∷ b28 ∷ b29 ∷ b30 ∷ b31 ∷ b32 ∷ b33 ∷ b34 ∷ b35 ∷ b36 ∷ b37 ∷ [])) ≡ b0 ∷ b1 ∷ b2 ∷ b3 ∷ b4 ∷ b5 ∷ b6 ∷ b7 ∷ b8 ∷ b9 ∷ b10 ∷ b11 ∷ b12 ∷ b13 ∷ b14 ∷ b15 ∷ b16 ∷ b17 ∷ b18 ∷ b19 ∷ b20 ∷ b21 ∷ b22 ∷ b23 ∷ b24 ∷ b25 ∷ b26 ∷ b27 ∷ b28 ∷ b29 ∷ b30 ∷ b31 ∷ b32 ∷ b33 ∷ b34 ∷ b35 ∷ b36 ∷ b37 ∷ []
+module _
+    (b0 b1 b2 b3 b4 b5 b6 b7 b8 b9 b10 b11 b12 b13 b14 b15 b16 b17 b18 b19 b20 b21 b22 b23 b24 b25 b26 b27 b28 b29 b30 b31 b32 b33 b34 b35 b36 b37 : ℕ)
+    (s6 : b6 < 256) (s9 : b9 < 256) (s11 : b11 < 256) (s14 : b14 < 256) (s16 : b16 < 256) (s18 : b18 < 256) (s20 : b20 < 256) (s22 : b22 < 256)
+    (s24 : b24 < 256) (s26 : b26 < 256) (s28 : b28 < 256) (s37 : b37 < 256) where
+  pub sender-same : senderBytes (senderIn (b0 ∷ b1 ∷ b2 ∷ b3 ∷ b4 ∷ b5 ∷ b6 ∷ b7 ∷ b8 ∷ b9 ∷ b10 ∷ b11 ∷ b12 ∷ b13 ∷ b14 ∷ b15 ∷ b16 ∷ b17 ∷ b18
+      ∷ b19 ∷ b20 ∷ b21 ∷ b22 ∷ b23 ∷ b24 ∷ b25 ∷ b26 ∷ b27 ∷ b28 ∷ b29 ∷ b30 ∷ b31 ∷ b32 ∷ b33 ∷ b34 ∷ b35 ∷ b36 ∷ b37 ∷ [])) ≡ b0 ∷ b1 ∷ b2 ∷ b3
+      ∷ b4 ∷ b5 ∷ b6 ∷ b7 ∷ b8 ∷ b9 ∷ b10 ∷ b11 ∷ b12 ∷ b13 ∷ b14 ∷ b15 ∷ b16 ∷ b17 ∷ b18 ∷ b19 ∷ b20 ∷ b21 ∷ b22 ∷ b23 ∷ b24 ∷ b25 ∷ b26 ∷ b27 ∷ b28
+      ∷ b29 ∷ b30 ∷ b31 ∷ b32 ∷ b33 ∷ b34 ∷ b35 ∷ b36 ∷ b37 ∷ []
   unfolding senderBytes senderIn countersIn lengthsIn channelsIn
-  sender-same = also refl (also refl (also refl (also refl (also refl (also (high b5 b6 s6) (also (low b5 b6 s6) (also refl (also (high b8 b9 s9) (also (low b8 b9 s9) (also (high b10 b11 s11) (also (low b10 b11 s11) (also refl (also (high b13 b14 s14) (also (low b13 b14 s14) (also (high b15 b16 s16) (also (low b15 b16 s16) (also (high b17 b18 s18) (also (low b17 b18 s18) (also (high b19 b20 s20) (also (low b19 b20 s20) (also (high b21 b22 s22) (also (low b21 b22 s22) (also (high b23 b24 s24) (also (low b23 b24 s24) (also (high b25 b26 s26) (also (low b25 b26 s26) (also (high b27 b28 s28) (also (low b27 b28 s28) (also refl (also refl (also refl (also refl (also refl (also refl (also refl (also refl (also (marks-same b37 s37) (refl))))))))))))))))))))))))))))))))))))))
+  sender-same =
+      also refl (also refl (also refl (also refl (also refl (also (high b5 b6 s6) (also (low b5 b6 s6) (also refl (also (high b8 b9 s9) (also
+      (low b8 b9 s9) (also (high b10 b11 s11) (also (low b10 b11 s11) (also refl (also (high b13 b14 s14) (also (low b13 b14 s14) (also
+      (high b15 b16 s16) (also (low b15 b16 s16) (also (high b17 b18 s18) (also (low b17 b18 s18) (also (high b19 b20 s20) (also
+      (low b19 b20 s20) (also (high b21 b22 s22) (also (low b21 b22 s22) (also (high b23 b24 s24) (also (low b23 b24 s24) (also
+      (high b25 b26 s26) (also (low b25 b26 s26) (also (high b27 b28 s28) (also (low b27 b28 s28) (also refl (also refl
+      (also refl (also refl (also refl (also refl (also refl (also refl (also (marks-same b37 s37) (refl))))))))))))))))))))))))))))))))))))))
 
 pub receiver-same : (b0 b1 b2 b3 : ℕ) → b3 < 256 → receiverBytes (receiverIn (b0 ∷ b1 ∷ b2 ∷ b3 ∷ [])) ≡ b0 ∷ b1 ∷ b2 ∷ b3 ∷ []
 unfolding receiverBytes receiverIn

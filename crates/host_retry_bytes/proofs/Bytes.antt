@@ -39,4 +39,5 @@ module _ (s : Sender) where
       ∙ ap (λ (z : ℕ). bytesWith (length 0 / 256) (length 1 / 256) (length 2 / 256) (length 3 / 256) (length 4 / 256) z x₆ x₇ mask) e₅
       ∙ ap (λ (z : ℕ). bytesWith (length 0 / 256) (length 1 / 256) (length 2 / 256) (length 3 / 256) (length 4 / 256) (length 5 / 256) z x₇ mask) e₆
       ∙ ap (λ (z : ℕ). bytesWith (length 0 / 256) (length 1 / 256) (length 2 / 256) (length 3 / 256) (length 4 / 256) (length 5 / 256) (length 6 / 256) z mask) e₇
-      ∙ ap (λ (z : ℕ). bytesWith (length 0 / 256) (length 1 / 256) (length 2 / 256) (length 3 / 256) (length 4 / 256) (length 5 / 256) (length 6 / 256) (length 7 / 256) z) m
+      ∙ ap (λ (z : ℕ). bytesWith (length 0 / 256) (length 1 / 256) (length 2 / 256) (length 3 / 256) (length 4 / 256) (length 5 / 256)
+      (length 6 / 256) (length 7 / 256) z) m

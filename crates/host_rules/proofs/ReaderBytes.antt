@@ -51,7 +51,15 @@ phase-again (Next (LmpCheck t n)) = refl
 pub reader-again : (r : Reader) → readerIn (readerBytes r) ≡ r
 unfolding readerIn readerBytes
 reader-again r =
-    simp (halves (r .size), halves (packetRegister (r .packet)), halves (priorityCount (r .priority)), halves (priorityRegister (r .priority)), packet-again (r .packet), priority-again (r .priority), phase-again (r .phase))
+    simp (
+      halves (r .size),
+      halves (packetRegister (r .packet)),
+      halves (priorityCount (r .priority)),
+      halves (priorityRegister (r .priority)),
+      packet-again (r .packet),
+      priority-again (r .priority),
+      phase-again (r .phase),
+    )
 
 -- and is an encoding
 pub reader-encodes : (r : Reader) → isReader (readerBytes r) ≡ true

@@ -51,7 +51,8 @@ pub bits-low : (k j a r : ℕ) → bits k (a * 2 ^ (k + j) + r) ≡ bits k r
 bits-low zero j a r = refl
 bits-low (suc k) j a r =
     let e : suc k + j ≡ k + suc j = suc-add k j ∙ sym (add-suc k j) in
-    let f : a * 2 ^ (suc k + j) ≡ 2 ^ k * (a * 2 ^ j * 2) = ap (λ (n : ℕ). a * 2 ^ n) e ∙ ap (λ (n : ℕ). a * n) (pow-add 2 k (suc j)) ∙ regroup a (2 ^ k) (2 ^ suc j) (2 ^ j) (omega arith) in
+    let f : a * 2 ^ (suc k + j) ≡ 2 ^ k * (a * 2 ^ j * 2) = ap (λ (n : ℕ). a * 2 ^ n) e ∙ ap (λ (n : ℕ). a * n) (pow-add 2 k (suc j))
+    ∙ regroup a (2 ^ k) (2 ^ suc j) (2 ^ j) (omega arith) in
     let g : (a * 2 ^ (suc k + j) + r) / 2 ^ k ≡ a * 2 ^ j * 2 + r / 2 ^ k = ap (λ (n : ℕ). (n + r) / 2 ^ k) f ∙ mul-add-div (pow-pos k) (a * 2 ^ j * 2) r in
     ap₂ (λ (h : ℕ) (t : List ℕ). h ∷ t)
     (ap (λ (n : ℕ). n % 2) g ∙ mul-add-mod-self-right (a * 2 ^ j) 2 (r / 2 ^ k))

@@ -58,7 +58,11 @@ module _ (n : ℕ) where
       let b = last (n / 1000) (n / 10000) 0 ten-thousands (omega arith) in
       let c = last (n / 100) (n / 1000) (0 * 10 + (48 + n / 1000 % 10 - 48)) thousands b in
       let d = last (n / 10) (n / 100) ((0 * 10 + (48 + n / 1000 % 10 - 48)) * 10 + (48 + n / 100 % 10 - 48)) hundreds c in
-      record { value = last n (n / 10) (((0 * 10 + (48 + n / 1000 % 10 - 48)) * 10 + (48 + n / 100 % 10 - 48)) * 10 + (48 + n / 10 % 10 - 48)) refl d; shortest = λ e. omega arith }
+      record {
+        value = last n (n / 10) (((0 * 10 + (48 + n / 1000 % 10 - 48)) * 10 + (48 + n / 100 % 10 - 48)) * 10 +
+            (48 + n / 10 % 10 - 48)) refl d;
+        shortest = λ e. omega arith;
+      }
 
   five : 10000 ≤ n → n < 100000 → Fits 0
   five g h =
@@ -67,7 +71,12 @@ module _ (n : ℕ) where
       let b = last (n / 1000) (n / 10000) (0 * 10 + (48 + n / 10000 % 10 - 48)) ten-thousands z in
       let c = last (n / 100) (n / 1000) ((0 * 10 + (48 + n / 10000 % 10 - 48)) * 10 + (48 + n / 1000 % 10 - 48)) thousands b in
       let d = last (n / 10) (n / 100) (((0 * 10 + (48 + n / 10000 % 10 - 48)) * 10 + (48 + n / 1000 % 10 - 48)) * 10 + (48 + n / 100 % 10 - 48)) hundreds c in
-      record { value = last n (n / 10) ((((0 * 10 + (48 + n / 10000 % 10 - 48)) * 10 + (48 + n / 1000 % 10 - 48)) * 10 + (48 + n / 100 % 10 - 48)) * 10 + (48 + n / 10 % 10 - 48)) refl d; shortest = λ e. omega arith }
+      record {
+        value = last n (n / 10)
+            ((((0 * 10 + (48 + n / 10000 % 10 - 48)) * 10 + (48 + n / 1000 % 10 - 48)) * 10 + (48 + n / 100 % 10 - 48)) * 10 +
+            (48 + n / 10 % 10 - 48)) refl d;
+        shortest = λ e. omega arith;
+      }
 
   pub is-decimal : n < 100000 → Decimal n (decimal n)
   unfolding decimal

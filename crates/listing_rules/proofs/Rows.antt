@@ -33,13 +33,15 @@ example-read =
     ∙ ap (λ (r : Reading). clean (K 28 0) (negsuc 0) ∷ r ∷ []) (samples .d21-5)
 
 -- place event detail; 1 violation 9; end 2 1
-pub document-example : listingOf (0x3D ∷ 0x2A ∷ 0xA0 ∷ []) ≡ 112 ∷ 108 ∷ 97 ∷ 99 ∷ 101 ∷ 32 ∷ 101 ∷ 118 ∷ 101 ∷ 110 ∷ 116 ∷ 32 ∷ 100 ∷ 101 ∷ 116 ∷ 97 ∷ 105 ∷ 108 ∷ 10 ∷ 49 ∷ 32 ∷ 118 ∷ 105 ∷ 111 ∷ 108 ∷ 97 ∷ 116 ∷ 105 ∷ 111 ∷ 110 ∷ 32 ∷ 57 ∷ 10 ∷ 101 ∷ 110 ∷ 100 ∷ 32 ∷ 50 ∷ 32 ∷ 49 ∷ 10 ∷ []
+pub document-example : listingOf (0x3D ∷ 0x2A ∷ 0xA0 ∷ []) ≡ 112 ∷ 108 ∷ 97 ∷ 99 ∷ 101 ∷ 32 ∷ 101 ∷ 118 ∷ 101 ∷ 110 ∷ 116 ∷ 32 ∷ 100 ∷ 101 ∷ 116 ∷ 97
+    ∷ 105 ∷ 108 ∷ 10 ∷ 49 ∷ 32 ∷ 118 ∷ 105 ∷ 111 ∷ 108 ∷ 97 ∷ 116 ∷ 105 ∷ 111 ∷ 110 ∷ 32 ∷ 57 ∷ 10 ∷ 101 ∷ 110 ∷ 100 ∷ 32 ∷ 50 ∷ 32 ∷ 49 ∷ 10 ∷ []
 unfolding listingOf legal closingBits charactersOf saidOf stepOf readOf sizeAllowed wellFormed violationOf broken dropped linesFrom eventsIn decimal isTwelve kindOf controlKind crcStart
 document-example =
     ap (λ (gs : List Reading). header ++ (linesFrom 0 (saidOf (fresh 8) gs) ++ endLine 2 (eventsIn (saidOf (fresh 8) gs)))) example-read
 
 -- place event detail; end 0 0
-pub empty-capture : listingOf [] ≡ 112 ∷ 108 ∷ 97 ∷ 99 ∷ 101 ∷ 32 ∷ 101 ∷ 118 ∷ 101 ∷ 110 ∷ 116 ∷ 32 ∷ 100 ∷ 101 ∷ 116 ∷ 97 ∷ 105 ∷ 108 ∷ 10 ∷ 101 ∷ 110 ∷ 100 ∷ 32 ∷ 48 ∷ 32 ∷ 48 ∷ 10 ∷ []
+pub empty-capture : listingOf [] ≡ 112 ∷ 108 ∷ 97 ∷ 99 ∷ 101 ∷ 32 ∷ 101 ∷ 118 ∷ 101 ∷ 110 ∷ 116 ∷ 32 ∷ 100 ∷ 101 ∷ 116 ∷ 97 ∷ 105 ∷ 108 ∷ 10 ∷ 101
+    ∷ 110 ∷ 100 ∷ 32 ∷ 48 ∷ 32 ∷ 48 ∷ 10 ∷ []
 unfolding listingOf legal closingBits charactersOf saidOf linesFrom eventsIn decimal
 empty-capture = refl
 
@@ -79,7 +81,8 @@ pub each-counts : map (λ (e : Said). listed (fieldsOf e)) events ≡ 1 ∷ 1 �
 each-counts = refl
 
 -- from place 0: the place counts every character, the events only those that are listed
-pub places-counted : linesFrom 0 (nothing ∷ gaveByte 1 ∷ ended false ∷ nothing ∷ replied true 9 ∷ []) ≡ 50 ∷ 32 ∷ 101 ∷ 110 ∷ 100 ∷ 32 ∷ 103 ∷ 111 ∷ 111 ∷ 100 ∷ 10 ∷ 52 ∷ 32 ∷ 108 ∷ 109 ∷ 112 ∷ 32 ∷ 78 ∷ 65 ∷ 67 ∷ 75 ∷ 32 ∷ 57 ∷ 10 ∷ []
+pub places-counted : linesFrom 0 (nothing ∷ gaveByte 1 ∷ ended false ∷ nothing ∷ replied true 9 ∷ []) ≡ 50 ∷ 32 ∷ 101 ∷ 110 ∷ 100 ∷ 32 ∷ 103 ∷ 111
+    ∷ 111 ∷ 100 ∷ 10 ∷ 52 ∷ 32 ∷ 108 ∷ 109 ∷ 112 ∷ 32 ∷ 78 ∷ 65 ∷ 67 ∷ 75 ∷ 32 ∷ 57 ∷ 10 ∷ []
 unfolding linesFrom decimal
 places-counted = refl
 

@@ -95,10 +95,13 @@ module _ (cs ds : List ℕ) (p : Reached) where
       let es = saidOfRun cs p in
       let fs = saidOfRun ds (afterRun cs p) in
       let n = length-saidOfRun cs p in
-      let size : p .place + length (cs ++ ds) ≡ p .place + length cs + length ds = ap (λ (k : ℕ). p .place + k) (length-append cs ds) ∙ sym (add-assoc (p .place) (length cs) (length ds)) in
-      let count : p .events + eventsIn (es ++ fs) ≡ p .events + eventsIn es + eventsIn fs = ap (λ (k : ℕ). p .events + k) (events-append es fs) ∙ sym (add-assoc (p .events) (eventsIn es) (eventsIn fs)) in
+      let size : p .place + length (cs ++ ds) ≡ p .place + length cs + length ds = ap (λ (k : ℕ). p .place + k) (length-append cs ds)
+      ∙ sym (add-assoc (p .place) (length cs) (length ds)) in
+      let count : p .events + eventsIn (es ++ fs) ≡ p .events + eventsIn es + eventsIn fs = ap (λ (k : ℕ). p .events + k) (events-append es fs)
+      ∙ sym (add-assoc (p .events) (eventsIn es) (eventsIn fs)) in
       ap₂ (λ (l : List EventSaid) (k : ℕ). linesFrom (p .place) l ++ endLine k (p .events + eventsIn l)) said-both size
-      ∙ ap₂ (λ (l : List ℕ) (k : ℕ). l ++ endLine (p .place + length cs + length ds) k) (lines-append (p .place) es fs ∙ ap (λ (k : ℕ). linesFrom (p .place) es ++ linesFrom (p .place + k) fs) n) count
+      ∙ ap₂ (λ (l : List ℕ) (k : ℕ). l ++ endLine (p .place + length cs + length ds) k)
+      (lines-append (p .place) es fs ∙ ap (λ (k : ℕ). linesFrom (p .place) es ++ linesFrom (p .place + k) fs) n) count
       ∙ append-assoc (linesFrom (p .place) es) (linesFrom (p .place + length cs) fs) (endLine (p .place + length cs + length ds) (p .events + eventsIn es + eventsIn fs))
 
 rest-end : (p : Reached) → restOf [] p ≡ endLine (p .place) (p .events)
@@ -154,20 +157,25 @@ module _ (capture : List ℕ) (ok : legal capture ≡ true) where
   nexts-range place = all-take inRange 64 (drop place (charactersOf capture)) (all-drop inRange place (charactersOf capture) (characters-below capture))
 
   -- the last line
-  from-end : (p : Reached) → keepsRule p ≡ true → p .place ≡ characterCount (length capture) → HandsOut ours capture (Going p) (restOf (drop (p .place) (charactersOf capture)) p)
+  from-end : (p : Reached) → keepsRule p ≡ true → p .place ≡ characterCount (length capture)
+      → HandsOut ours capture (Going p) (restOf (drop (p .place) (charactersOf capture)) p)
   unfolding pieceOf listingAfter
   from-end p k e =
       let free = going-free capture p ok k (omega arith) in
       let out : isGoing capture p ≡ false = le-ltb (p .place) (characterCount (length capture)) (omega arith) in
       let bytes : pieceOf capture (Going p) ≡ endLine (p .place) (p .events) = rw out in
       let after : listingAfter capture (Going p) ≡ Ended = rw out in
-      let none : drop (p .place) (charactersOf capture) ≡ [] = ap (λ (n : ℕ). drop n (charactersOf capture)) (e ∙ sym (characters-length capture)) ∙ drop-length (charactersOf capture) in
-      subst (HandsOut ours capture (Going p)) (ap (λ (l : List ℕ). l ++ []) bytes ∙ append-nil (endLine (p .place) (p .events)) ∙ sym (ap (λ (l : List ℕ). restOf l p) none ∙ rest-end p))
-      (piece (Going p) Ended (pieceOf capture (Going p)) (not-refused capture (Going p) free ∙ ap (wrote (length (pieceOf capture (Going p)))) after) (λ old h. front capture (Going p) free old) (ended capture))
+      let none : drop (p .place) (charactersOf capture) ≡ [] = ap (λ (n : ℕ). drop n (charactersOf capture)) (e ∙ sym (characters-length capture))
+      ∙ drop-length (charactersOf capture) in
+      subst (HandsOut ours capture (Going p))
+      (ap (λ (l : List ℕ). l ++ []) bytes ∙ append-nil (endLine (p .place) (p .events)) ∙ sym (ap (λ (l : List ℕ). restOf l p) none ∙ rest-end p))
+      (piece (Going p) Ended (pieceOf capture (Going p)) (not-refused capture (Going p) free ∙ ap (wrote (length (pieceOf capture (Going p)))) after)
+      (λ old h. front capture (Going p) free old) (ended capture))
 
   -- the next characters, and what is left after them
   from-place : (p : Reached) → keepsRule p ≡ true → p .place < characterCount (length capture)
-      → HandsOut ours capture (Going (afterRun (nextCharacters capture (p .place)) p)) (restOf (drop (p .place + length (nextCharacters capture (p .place))) (charactersOf capture)) (afterRun (nextCharacters capture (p .place)) p))
+      → HandsOut ours capture (Going (afterRun (nextCharacters capture (p .place)) p)) (restOf
+      (drop (p .place + length (nextCharacters capture (p .place))) (charactersOf capture)) (afterRun (nextCharacters capture (p .place)) p))
       → HandsOut ours capture (Going p) (restOf (drop (p .place) (charactersOf capture)) p)
   unfolding pieceOf listingAfter
   from-place p k h later =
@@ -177,12 +185,15 @@ module _ (capture : List ℕ) (ok : legal capture ≡ true) where
       let on : isGoing capture p ≡ true = lt-ltb (p .place) (characterCount (length capture)) h in
       let bytes : pieceOf capture (Going p) ≡ linesFrom (p .place) (saidOfRun cs p) = rw on in
       let after : listingAfter capture (Going p) ≡ Going (afterRun cs p) = rw on in
-      let rest : drop 64 all-left ≡ drop (p .place + length cs) (charactersOf capture) = drop-taken 64 all-left ∙ drop-drop (length cs) (p .place) (charactersOf capture) in
+      let rest : drop 64 all-left ≡ drop (p .place + length cs) (charactersOf capture) = drop-taken 64 all-left
+      ∙ drop-drop (length cs) (p .place) (charactersOf capture) in
       subst (HandsOut ours capture (Going p))
       (ap (λ (x : List ℕ). x ++ restOf (drop (p .place + length cs) (charactersOf capture)) (afterRun cs p)) bytes
       ∙ ap (λ (x : List ℕ). linesFrom (p .place) (saidOfRun cs p) ++ restOf x (afterRun cs p)) (sym rest)
       ∙ sym (ap (λ (x : List ℕ). restOf x p) (sym (take-append-drop 64 all-left)) ∙ rest-both cs (drop 64 all-left) p))
-      (piece (Going p) (Going (afterRun cs p)) (pieceOf capture (Going p)) (not-refused capture (Going p) free ∙ ap (wrote (length (pieceOf capture (Going p)))) after) (λ old g. front capture (Going p) free old) later)
+      (piece (Going p) (Going (afterRun cs p)) (pieceOf capture (Going p))
+      (not-refused capture (Going p) free ∙ ap (wrote (length (pieceOf capture (Going p)))) after)
+      (λ old g. front capture (Going p) free old) later)
 
   from : (fuel : ℕ) (p : Reached) → keepsRule p ≡ true → p .place ≤ characterCount (length capture) → characterCount (length capture) < p .place + fuel
       → HandsOut ours capture (Going p) (restOf (drop (p .place) (charactersOf capture)) p)
@@ -208,7 +219,8 @@ fresh-refused capture out =
     let after : listingAfter capture Fresh ≡ Ended = rw out in
     let whole : listingOf capture ≡ refusedLine = rw out in
     subst (HandsOut ours capture Fresh) (append-nil (pieceOf capture Fresh) ∙ bytes ∙ sym whole)
-    (piece Fresh Ended (pieceOf capture Fresh) (not-refused capture Fresh refl ∙ ap (wrote (length (pieceOf capture Fresh))) after) (λ old h. front capture Fresh refl old) (ended capture))
+    (piece Fresh Ended (pieceOf capture Fresh) (not-refused capture Fresh refl ∙ ap (wrote (length (pieceOf capture Fresh))) after)
+    (λ old h. front capture Fresh refl old) (ended capture))
 
 -- a legal one: the header, and the rest from place 0
 fresh-legal : (capture : List ℕ) → legal capture ≡ true → HandsOut ours capture Fresh (listingOf capture)
@@ -221,7 +233,8 @@ fresh-legal capture ok =
     let m : eventsIn es ≡ 0 + eventsIn es = omega arith in
     let whole : listingOf capture ≡ header ++ restOf (charactersOf capture) start = rw ok (ap₂ (λ (x y : ℕ). header ++ (linesFrom 0 es ++ endLine x y)) n m) in
     subst (HandsOut ours capture Fresh) (ap (λ (x : List ℕ). x ++ restOf (charactersOf capture) start) bytes ∙ sym whole)
-    (piece Fresh (Going start) (pieceOf capture Fresh) (not-refused capture Fresh refl ∙ ap (wrote (length (pieceOf capture Fresh))) after) (λ old h. front capture Fresh refl old)
+    (piece Fresh (Going start) (pieceOf capture Fresh) (not-refused capture Fresh refl ∙ ap (wrote (length (pieceOf capture Fresh))) after)
+    (λ old h. front capture Fresh refl old)
     (from capture ok (suc (characterCount (length capture))) start start-kept (omega arith) (omega arith)))
 
 -- THE THEOREM

@@ -46,7 +46,8 @@ stored (piece _ m bytes e f h) =
     let ones : List ℕ = replicate 2048 1 in
     let a : getD (take (length bytes) zeros) 0 0 ≡ 0 = getD-take (length bytes) zeros 0 0 some in
     let b : getD (take (length bytes) ones) 0 0 ≡ 1 = getD-take (length bytes) ones 0 0 some in
-    let bad : _≡_ {A = ℕ} 0 1 = sym a ∙ ap (λ (l : List ℕ). getD l 0 0) (f zeros (length-replicate {A = ℕ} 2048 0) ∙ sym (f ones (length-replicate {A = ℕ} 2048 1))) ∙ b in
+    let bad : _≡_ {A = ℕ} 0 1 = sym a
+    ∙ ap (λ (l : List ℕ). getD l 0 0) (f zeros (length-replicate {A = ℕ} 2048 0) ∙ sym (f ones (length-replicate {A = ℕ} 2048 1))) ∙ b in
     omega arith
 
 pub stores-nothing-lists-not : Lists storesNothing → ⊥

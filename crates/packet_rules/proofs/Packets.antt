@@ -82,9 +82,11 @@ unfolding symbolsOf isTwelve
 can s (inData c bytes bad) h = packet-can SDP c bytes bad tt (h .0) (h .2)
 can s (inPriority c g bytes bad) h = packet-can SPP (16 * g + c) bytes bad tt (omega (arith, h .0, h .1)) (h .4)
 can s (retry true n) h =
-    and-both (canWrite (dataSymbol n)) _ (byte-can n (omega arith)) (and-both (canWrite (dataSymbol (bitXor 0x21 n))) true (byte-can (bitXor 0x21 n) (xor-lt 8 0x21 n (omega arith) (omega arith))) tt)
+    and-both (canWrite (dataSymbol n)) _ (byte-can n (omega arith))
+    (and-both (canWrite (dataSymbol (bitXor 0x21 n))) true (byte-can (bitXor 0x21 n) (xor-lt 8 0x21 n (omega arith) (omega arith))) tt)
 can s (retry false n) h =
-    and-both (canWrite (dataSymbol n)) _ (byte-can n (omega arith)) (and-both (canWrite (dataSymbol (bitXor 0x20 n))) true (byte-can (bitXor 0x20 n) (xor-lt 8 0x20 n (omega arith) (omega arith))) tt)
+    and-both (canWrite (dataSymbol n)) _ (byte-can n (omega arith))
+    (and-both (canWrite (dataSymbol (bitXor 0x20 n))) true (byte-can (bitXor 0x20 n) (xor-lt 8 0x20 n (omega arith) (omega arith))) tt)
 
 -- ---- how long it is
 

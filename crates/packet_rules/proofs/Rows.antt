@@ -63,15 +63,19 @@ closing-byte-differs = refl
 
 -- "123456789" on channel 7: the CRC is 6E 90
 pub own-bytes-only :
-    said (sdp ∷ byte 0x07 ∷ byte 0x31 ∷ byte 0x32 ∷ byte 0x33 ∷ byte 0x34 ∷ byte 0x35 ∷ byte 0x36 ∷ byte 0x37 ∷ byte 0x38 ∷ byte 0x39 ∷ ebp ∷ byte 0x07 ∷ byte 0x6E ∷ byte 0x90 ∷ [])
-    ≡ nothing ∷ started 7 none ∷ gaveByte 0x31 ∷ gaveByte 0x32 ∷ gaveByte 0x33 ∷ gaveByte 0x34 ∷ gaveByte 0x35 ∷ gaveByte 0x36 ∷ gaveByte 0x37 ∷ gaveByte 0x38 ∷ gaveByte 0x39 ∷ nothing ∷ nothing ∷ nothing ∷ ended true ∷ []
+    said (sdp ∷ byte 0x07 ∷ byte 0x31 ∷ byte 0x32 ∷ byte 0x33 ∷ byte 0x34 ∷ byte 0x35 ∷ byte 0x36 ∷ byte 0x37 ∷ byte 0x38 ∷ byte 0x39 ∷ ebp
+    ∷ byte 0x07 ∷ byte 0x6E ∷ byte 0x90 ∷ [])
+    ≡ nothing ∷ started 7 none ∷ gaveByte 0x31 ∷ gaveByte 0x32 ∷ gaveByte 0x33 ∷ gaveByte 0x34 ∷ gaveByte 0x35 ∷ gaveByte 0x36 ∷ gaveByte 0x37
+    ∷ gaveByte 0x38 ∷ gaveByte 0x39 ∷ nothing ∷ nothing ∷ nothing ∷ ended true ∷ []
 unfolding saidOf stepOf readOf violationOf kindOf controlKind isTwelve sizeAllowed wellFormed broken dropped crcFrom crcStart checkBytesOf numberOf checkBits checkBit overlay lowestFirst bitsOf bytesOf xor
 own-bytes-only = refl
 
 -- 6 is given at the second CRC byte, and the reader is outside and not dropping
 pub crc-in-the-other-order :
-    said (sdp ∷ byte 0x07 ∷ byte 0x31 ∷ byte 0x32 ∷ byte 0x33 ∷ byte 0x34 ∷ byte 0x35 ∷ byte 0x36 ∷ byte 0x37 ∷ byte 0x38 ∷ byte 0x39 ∷ egp ∷ byte 0x07 ∷ byte 0x90 ∷ byte 0x6E ∷ byte 0x00 ∷ byte 0x01 ∷ [])
-    ≡ nothing ∷ started 7 none ∷ gaveByte 0x31 ∷ gaveByte 0x32 ∷ gaveByte 0x33 ∷ gaveByte 0x34 ∷ gaveByte 0x35 ∷ gaveByte 0x36 ∷ gaveByte 0x37 ∷ gaveByte 0x38 ∷ gaveByte 0x39 ∷ nothing ∷ nothing ∷ nothing ∷ violated 6 ∷ nothing ∷ violated 9 ∷ []
+    said (sdp ∷ byte 0x07 ∷ byte 0x31 ∷ byte 0x32 ∷ byte 0x33 ∷ byte 0x34 ∷ byte 0x35 ∷ byte 0x36 ∷ byte 0x37 ∷ byte 0x38 ∷ byte 0x39 ∷ egp
+    ∷ byte 0x07 ∷ byte 0x90 ∷ byte 0x6E ∷ byte 0x00 ∷ byte 0x01 ∷ [])
+    ≡ nothing ∷ started 7 none ∷ gaveByte 0x31 ∷ gaveByte 0x32 ∷ gaveByte 0x33 ∷ gaveByte 0x34 ∷ gaveByte 0x35 ∷ gaveByte 0x36 ∷ gaveByte 0x37
+    ∷ gaveByte 0x38 ∷ gaveByte 0x39 ∷ nothing ∷ nothing ∷ nothing ∷ violated 6 ∷ nothing ∷ violated 9 ∷ []
 unfolding saidOf stepOf readOf violationOf kindOf controlKind isTwelve sizeAllowed wellFormed broken dropped crcFrom crcStart checkBytesOf numberOf checkBits checkBit overlay lowestFirst bitsOf bytesOf xor
 crc-in-the-other-order = refl
 
@@ -98,8 +102,10 @@ wrong-nested-crc = refl
 
 -- an LMP with a nonzero reserved field, another type or another parameter is dropped as nothing; ACK and NACK are not
 pub reserved-field :
-    said (slp ∷ byte 0x20 ∷ byte 0x13 ∷ byte 0x33 ∷ slp ∷ byte 0x10 ∷ byte 0x03 ∷ byte 0x13 ∷ slp ∷ byte 0x22 ∷ byte 0x03 ∷ byte 0x21 ∷ slp ∷ byte 0x20 ∷ byte 0x03 ∷ byte 0x23 ∷ slp ∷ byte 0x21 ∷ byte 0x0F ∷ byte 0x2E ∷ [])
-    ≡ nothing ∷ nothing ∷ nothing ∷ nothing ∷ nothing ∷ nothing ∷ nothing ∷ nothing ∷ nothing ∷ nothing ∷ nothing ∷ nothing ∷ nothing ∷ nothing ∷ nothing ∷ replied false 3 ∷ nothing ∷ nothing ∷ nothing ∷ replied true 15 ∷ []
+    said (slp ∷ byte 0x20 ∷ byte 0x13 ∷ byte 0x33 ∷ slp ∷ byte 0x10 ∷ byte 0x03 ∷ byte 0x13 ∷ slp ∷ byte 0x22 ∷ byte 0x03 ∷ byte 0x21 ∷ slp
+    ∷ byte 0x20 ∷ byte 0x03 ∷ byte 0x23 ∷ slp ∷ byte 0x21 ∷ byte 0x0F ∷ byte 0x2E ∷ [])
+    ≡ nothing ∷ nothing ∷ nothing ∷ nothing ∷ nothing ∷ nothing ∷ nothing ∷ nothing ∷ nothing ∷ nothing ∷ nothing ∷ nothing ∷ nothing ∷ nothing
+    ∷ nothing ∷ replied false 3 ∷ nothing ∷ nothing ∷ nothing ∷ replied true 15 ∷ []
 unfolding saidOf stepOf readOf violationOf kindOf controlKind isTwelve sizeAllowed wellFormed broken dropped crcFrom crcStart checkBytesOf numberOf checkBits checkBit overlay lowestFirst bitsOf bytesOf xor
 reserved-field = refl
 

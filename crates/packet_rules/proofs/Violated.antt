@@ -90,7 +90,9 @@ free-silent NoPlace r = refl
 free-silent Unsupported r = refl
 
 lmp-silent : (t n : ℕ) → lmpSaid t n .violation ≡ none
-lmp-silent t n = either (λ (s : Said). s .violation ≡ none) (eqb (t / 16) 2 && (ltb (t % 16) 2 && eqb (n / 16) 0)) (replied (eqb (t % 16) 1) (n % 16)) nothing (λ e. refl) (λ e. refl)
+lmp-silent t n =
+    either (λ (s : Said). s .violation ≡ none) (eqb (t / 16) 2 && (ltb (t % 16) 2 && eqb (n / 16) 0)) (replied (eqb (t % 16) 1) (n % 16)) nothing
+    (λ e. refl) (λ e. refl)
 
 own-silent : (bad : Bool) (p : PriorityPacket) (r : Reader) → Silent (closesOwn (ended bad) p r)
 own-silent bad NoPriority r = refl

@@ -45,7 +45,15 @@ everyPacketBad r =
     record {
       State = r .State;
       fresh = r .fresh;
-      says = λ q g. let x = r .says q g in record { refusal = x .refusal; violation = x .violation; start = x .start; byte = x .byte; end = badMark (x .end); lmp = x .lmp };
+      says = λ q g. let x = r .says q g in record {
+        refusal = x .refusal;
+        violation = x .violation;
+        start = x .start;
+        byte = x .byte;
+        end = badMark
+            (x .end);
+        lmp = x .lmp;
+      };
       next = r .next;
     }
 

@@ -37,7 +37,8 @@ module _ (s : Sender) where
   pub send-number : (lent output : ℕ) → sendOf s lent output .refusal ≡ refusalOf (sendChecks s lent output)
   unfolding sendOf
   send-number lent output =
-      number-is (sendChecks s lent output) (λ (a : Sent). a .refusal) (refusedSend s) _ (λ _. refl) (by-cases (λ (a : Sent). a .refusal ≡ 0) (toSend (s .counters)) (λ _. refl) (λ _. refl))
+      number-is (sendChecks s lent output) (λ (a : Sent). a .refusal) (refusedSend s) _ (λ _. refl)
+      (by-cases (λ (a : Sent). a .refusal ≡ 0) (toSend (s .counters)) (λ _. refl) (λ _. refl))
 
   pub reply-number : (nack : Bool) (k : ℕ) → replyOf s nack k .refusal ≡ refusalOf (replyChecks s k)
   unfolding replyOf
@@ -67,7 +68,8 @@ module _ (r : Receiver) where
       by-cases P (eqb k (r .expected)) (λ _. by-cases P room (λ _. refl) (λ _. refl))
       (λ _. by-cases P (amongLast (r .received) (r .expected) k) (λ _. refl) (λ _. refl))
 
-  pub arrival-number : (k channel : ℕ) (bad : Bool) (n : ℕ) (room : Bool) (output : ℕ) → arrivalOf r k channel bad n room output .refusal ≡ refusalOf (arrivalChecks r k channel n room output)
+  pub arrival-number : (k channel : ℕ) (bad : Bool) (n : ℕ) (room : Bool) (output : ℕ)
+      → arrivalOf r k channel bad n room output .refusal ≡ refusalOf (arrivalChecks r k channel n room output)
   unfolding arrivalOf answerTo
   arrival-number k channel bad n room output =
       number-is (arrivalChecks r k channel n room output) (λ (a : Arrived). a .refusal) (refusedArrival r) _ (λ _. refl) (answered k channel bad n room)
@@ -79,7 +81,8 @@ module _ (r : Receiver) where
 
 -- and a refused call answers with that number, zeros and the state it was given
 module _ (s : Sender) where
-  pub offer-refused : (lent channel : ℕ) (bad : Bool) (n : ℕ) → (offerOf s lent channel bad n .refusal ≡ 0 → ⊥) → offerOf s lent channel bad n ≡ refusedOffer s (offerOf s lent channel bad n .refusal)
+  pub offer-refused : (lent channel : ℕ) (bad : Bool) (n : ℕ) → (offerOf s lent channel bad n .refusal ≡ 0 → ⊥)
+      → offerOf s lent channel bad n ≡ refusedOffer s (offerOf s lent channel bad n .refusal)
   unfolding offerOf
   offer-refused lent channel bad n =
       leaves-answer (offerChecks s lent channel n) (λ (a : Offered). a .refusal) (refusedOffer s) _ (λ _. refl) refl
@@ -87,7 +90,8 @@ module _ (s : Sender) where
   pub send-refused : (lent output : ℕ) → (sendOf s lent output .refusal ≡ 0 → ⊥) → sendOf s lent output ≡ refusedSend s (sendOf s lent output .refusal)
   unfolding sendOf
   send-refused lent output =
-      leaves-answer (sendChecks s lent output) (λ (a : Sent). a .refusal) (refusedSend s) _ (λ _. refl) (by-cases (λ (a : Sent). a .refusal ≡ 0) (toSend (s .counters)) (λ _. refl) (λ _. refl))
+      leaves-answer (sendChecks s lent output) (λ (a : Sent). a .refusal) (refusedSend s) _ (λ _. refl)
+      (by-cases (λ (a : Sent). a .refusal ≡ 0) (toSend (s .counters)) (λ _. refl) (λ _. refl))
 
   pub reply-refused : (nack : Bool) (k : ℕ) → (replyOf s nack k .refusal ≡ 0 → ⊥) → replyOf s nack k ≡ refusedSender s (replyOf s nack k .refusal)
   unfolding replyOf
@@ -110,7 +114,8 @@ module _ (s : Sender) where
       leaves-answer (resetChecks s t size) (λ (a : Answered). a .refusal) (refusedSender s) _ (λ _. refl) refl
 
 module _ (r : Receiver) where
-  pub arrival-refused : (k channel : ℕ) (bad : Bool) (n : ℕ) (room : Bool) (output : ℕ) → (arrivalOf r k channel bad n room output .refusal ≡ 0 → ⊥) → arrivalOf r k channel bad n room output ≡ refusedArrival r (arrivalOf r k channel bad n room output .refusal)
+  pub arrival-refused : (k channel : ℕ) (bad : Bool) (n : ℕ) (room : Bool) (output : ℕ) → (arrivalOf r k channel bad n room output .refusal ≡ 0 → ⊥)
+      → arrivalOf r k channel bad n room output ≡ refusedArrival r (arrivalOf r k channel bad n room output .refusal)
   unfolding arrivalOf answerTo
   arrival-refused k channel bad n room output =
       leaves-answer (arrivalChecks r k channel n room output) (λ (a : Arrived). a .refusal) (refusedArrival r) _ (λ _. refl) (answered r k channel bad n room)

@@ -68,7 +68,8 @@ returns-2 c =
     let same = toZ-ofZ (s .fits .disparity) in
     let given = c .before .before .before .before .before .before .before .before .refusal-of .ensures
     ∙ ap (λ (z : ℤ). refusalOf (captureChecks (a .capture .now) (a .reader) z (length (a .events .now)))) same in
-    is-read (a .capture .now) (a .reader) (a .disparity) (a .events .now) _ given (c .before .before .before .before .before .before .before .if1 .left) _ (sign .ensures ∙ ap isPlus same)
+    is-read (a .capture .now) (a .reader) (a .disparity) (a .events .now) _ given
+    (c .before .before .before .before .before .before .before .if1 .left) _ (sign .ensures ∙ ap isPlus same)
     _ _ _ (each .ensures) _ (closing .ensures)
 
 pub read-capture-spec : {M : Type 1} → statement M

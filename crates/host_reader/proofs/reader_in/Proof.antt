@@ -74,7 +74,16 @@ phase-of-requires c κs = search needs
 
 returns : tie.Need-returns
 unfolding readerIn
-returns c = simp (c .phase-of .ensures, c .before .priority-of .ensures, c .before .before .two4 .ensures, c .before .before .before .two3 .ensures, c .before .before .before .before .packet-of .ensures, c .before .before .before .before .before .two2 .ensures, c .before .before .before .before .before .before .two .ensures)
+returns c =
+    simp (
+      c .phase-of .ensures,
+      c .before .priority-of .ensures,
+      c .before .before .two4 .ensures,
+      c .before .before .before .two3 .ensures,
+      c .before .before .before .before .packet-of .ensures,
+      c .before .before .before .before .before .two2 .ensures,
+      c .before .before .before .before .before .before .two .ensures,
+    )
 
 pub reader-in-spec : {M : Type 1} → statement M
 reader-in-spec =

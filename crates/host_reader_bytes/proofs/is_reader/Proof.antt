@@ -85,7 +85,8 @@ priority-fits-requires c κs = search needs
 returns-2 : tie.Need-returns-2
 unfolding isReader
 returns-2 c = simp (
-  packet-in _ _ (c .before .before .before .before .reader-in .ensures) ∙ sym (c .before .before .before .packet-fits .ensures) ∙ not-false _ (c .before .before .if1 .left),
+  packet-in _ _ (c .before .before .before .before .reader-in .ensures) ∙ sym (c .before .before .before .packet-fits .ensures)
+      ∙ not-false _ (c .before .before .if1 .left),
   priority-in _ _ (c .before .before .before .before .reader-in .ensures) ∙ sym (c .before .priority-fits .ensures) ∙ not-true _ (c .if2 .taken),
 )
 
@@ -104,7 +105,8 @@ phase-fits-requires c κs = search needs
 returns-3 : tie.Need-returns-3
 unfolding isReader
 returns-3 c = simp (
-  packet-in _ _ (c .before .before .before .before .before .reader-in .ensures) ∙ sym (c .before .before .before .before .packet-fits .ensures) ∙ not-false _ (c .before .before .before .if1 .left),
+  packet-in _ _ (c .before .before .before .before .before .reader-in .ensures) ∙ sym (c .before .before .before .before .packet-fits .ensures)
+      ∙ not-false _ (c .before .before .before .if1 .left),
   priority-in _ _ (c .before .before .before .before .before .reader-in .ensures) ∙ sym (c .before .before .priority-fits .ensures) ∙ not-false _ (c .before .if2 .left),
   phase-in _ _ (c .before .before .before .before .before .reader-in .ensures) ∙ sym (c .phase-fits .ensures),
 )

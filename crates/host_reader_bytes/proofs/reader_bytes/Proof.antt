@@ -62,7 +62,19 @@ phase-second-requires c κs = search needs
 
 returns : tie.Need-returns
 unfolding readerBytes
-returns c = simp (c .phase-second .ensures, c .before .phase-first .ensures, c .before .before .phase-tag .ensures, c .before .before .before .priority-opening .ensures, c .before .before .before .before .priority-tag .ensures, c .before .before .before .before .before .packet-channel .ensures, c .before .before .before .before .before .before .packet-tag .ensures, c .before .before .before .before .before .before .before .priority-register .ensures, c .before .before .before .before .before .before .before .before .priority-count .ensures, c .before .before .before .before .before .before .before .before .before .packet-register .ensures)
+returns c =
+    simp (
+      c .phase-second .ensures,
+      c .before .phase-first .ensures,
+      c .before .before .phase-tag .ensures,
+      c .before .before .before .priority-opening .ensures,
+      c .before .before .before .before .priority-tag .ensures,
+      c .before .before .before .before .before .packet-channel .ensures,
+      c .before .before .before .before .before .before .packet-tag .ensures,
+      c .before .before .before .before .before .before .before .priority-register .ensures,
+      c .before .before .before .before .before .before .before .before .priority-count .ensures,
+      c .before .before .before .before .before .before .before .before .before .packet-register .ensures,
+    )
 
 pub reader-bytes-spec : {M : Type 1} → statement M
 reader-bytes-spec =

@@ -80,7 +80,17 @@ two-requires-8 c κs = search needs
 
 returns : tie.Need-returns
 unfolding lengthsIn
-returns c = simp (c .before .before .before .before .before .before .before .two .ensures, c .before .before .before .before .before .before .two2 .ensures, c .before .before .before .before .before .two3 .ensures, c .before .before .before .before .two4 .ensures, c .before .before .before .two5 .ensures, c .before .before .two6 .ensures, c .before .two7 .ensures, c .two8 .ensures)
+returns c =
+    simp (
+      c .before .before .before .before .before .before .before .two .ensures,
+      c .before .before .before .before .before .before .two2 .ensures,
+      c .before .before .before .before .before .two3 .ensures,
+      c .before .before .before .before .two4 .ensures,
+      c .before .before .before .two5 .ensures,
+      c .before .before .two6 .ensures,
+      c .before .two7 .ensures,
+      c .two8 .ensures,
+    )
 
 pub lengths-in-spec : {M : Type 1} → statement M
 lengths-in-spec =

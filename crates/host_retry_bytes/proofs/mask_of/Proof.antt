@@ -99,7 +99,12 @@ add-result-7 c = search needs
 
 returns : tie.Need-returns
 unfolding maskOf
-returns c = next (c .before .before .before .before .before .before .before .mark-number .ensures .0) (next (c .before .before .before .before .before .before .mark-number2 .ensures .0) (next (c .before .before .before .before .before .mark-number3 .ensures .0) (next (c .before .before .before .before .mark-number4 .ensures .0) (next (c .before .before .before .mark-number5 .ensures .0) (next (c .before .before .mark-number6 .ensures .0) (next (c .before .mark-number7 .ensures .0) (last (c .mark-number8 .ensures .0))))))))
+returns c =
+    next (c .before .before .before .before .before .before .before .mark-number .ensures .0) (next
+    (c .before .before .before .before .before .before .mark-number2 .ensures .0) (next
+    (c .before .before .before .before .before .mark-number3 .ensures .0) (next (c .before .before .before .before .mark-number4 .ensures .0)
+    (next (c .before .before .before .mark-number5 .ensures .0)
+    (next (c .before .before .mark-number6 .ensures .0) (next (c .before .mark-number7 .ensures .0) (last (c .mark-number8 .ensures .0))))))))
 
 pub mask-of-spec : {M : Type 1} → statement M
 mask-of-spec =

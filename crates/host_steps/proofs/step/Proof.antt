@@ -23,25 +23,41 @@ refused-requires : tie.Need-refused-requires
 refused-requires c κs = search needs
 
 returns : tie.Need-returns
-returns c = c .refused .ensures ∙ ap (λ (r : Reader). refusedStep r 1) (c .before .before .before .reader-in .ensures) ∙ sym (step-no-reader (c .before .before .before .before .args .bytes) (c .before .before .before .before .args .violation) (c .before .before .before .before .args .byte) (c .before .before .before .before .args .control) (sym (c .before .before .is-reader .ensures) ∙ not-true _ (c .before .if1 .taken)))
+returns c =
+    let a = c .before .before .before .before .args in
+    c .refused .ensures ∙ ap (λ (r : Reader). refusedStep r 1) (c .before .before .before .reader-in .ensures) ∙ sym (step-no-reader (a .bytes)
+    (a .violation) (a .byte) (a .control) (sym (c .before .before .is-reader .ensures) ∙ not-true _ (c .before .if1 .taken)))
 
 refused-requires-2 : tie.Need-refused-requires-2
 refused-requires-2 c κs = search needs
 
 returns-2 : tie.Need-returns-2
-returns-2 c = c .refused2 .ensures ∙ ap (λ (r : Reader). refusedStep r 1) (c .before .before .before .before .reader-in .ensures) ∙ sym (step-no-violation (c .before .before .before .before .before .args .bytes) (c .before .before .before .before .before .args .violation) (c .before .before .before .before .before .args .byte) (c .before .before .before .before .before .args .control) (sym (c .before .before .before .is-reader .ensures) ∙ not-false _ (c .before .before .if1 .left)) (c .before .if2 .taken))
+returns-2 c =
+    let a = c .before .before .before .before .before .args in
+    c .refused2 .ensures ∙ ap (λ (r : Reader). refusedStep r 1) (c .before .before .before .before .reader-in .ensures) ∙ sym (step-no-violation
+    (a .bytes) (a .violation) (a .byte) (a .control)
+    (sym (c .before .before .before .is-reader .ensures) ∙ not-false _ (c .before .before .if1 .left)) (c .before .if2 .taken))
 
 step-requires : tie.Need-step-requires
 step-requires c κs = search needs
 
 returns-3 : tie.Need-returns-3
-returns-3 c = c .step .ensures ∙ ap (λ (r : Reader). stepOf r (invalid (negsuc 0))) (c .before .before .before .before .before .reader-in .ensures) ∙ sym (step-invalid (c .before .before .before .before .before .before .args .bytes) (c .before .before .before .before .before .before .args .violation) (c .before .before .before .before .before .before .args .byte) (c .before .before .before .before .before .before .args .control) (sym (c .before .before .before .before .is-reader .ensures) ∙ not-false _ (c .before .before .before .if1 .left)) (c .before .if3 .taken))
+returns-3 c =
+    let a = c .before .before .before .before .before .before .args in
+    c .step .ensures ∙ ap (λ (r : Reader). stepOf r (invalid (negsuc 0))) (c .before .before .before .before .before .reader-in .ensures) ∙ sym
+    (step-invalid (a .bytes) (a .violation) (a .byte) (a .control)
+    (sym (c .before .before .before .before .is-reader .ensures) ∙ not-false _ (c .before .before .before .if1 .left)) (c .before .if3 .taken))
 
 refused-requires-3 : tie.Need-refused-requires-3
 refused-requires-3 c κs = search needs
 
 returns-4 : tie.Need-returns-4
-returns-4 c = c .refused3 .ensures ∙ ap (λ (r : Reader). refusedStep r 1) (c .before .before .before .before .before .before .reader-in .ensures) ∙ sym (step-no-byte (c .before .before .before .before .before .before .before .args .bytes) (c .before .before .before .before .before .before .before .args .violation) (c .before .before .before .before .before .before .before .args .byte) (c .before .before .before .before .before .before .before .args .control) (sym (c .before .before .before .before .before .is-reader .ensures) ∙ not-false _ (c .before .before .before .before .if1 .left)) (c .before .before .before .if2 .left) (c .before .before .if3 .left) (c .before .if4 .taken))
+returns-4 c =
+    let a = c .before .before .before .before .before .before .before .args in
+    c .refused3 .ensures ∙ ap (λ (r : Reader). refusedStep r 1) (c .before .before .before .before .before .before .reader-in .ensures) ∙ sym
+    (step-no-byte (a .bytes) (a .violation) (a .byte) (a .control)
+    (sym (c .before .before .before .before .before .is-reader .ensures) ∙ not-false _ (c .before .before .before .before .if1 .left))
+    (c .before .before .before .if2 .left) (c .before .before .if3 .left) (c .before .if4 .taken))
 
 cast-result-of : tie.Need-cast-result-of
 cast-result-of c = search needs
@@ -53,7 +69,14 @@ step-requires-2 : tie.Need-step-requires-2
 step-requires-2 c κs = search needs
 
 returns-5 : tie.Need-returns-5
-returns-5 c = c .step2 .ensures ∙ ap (stepOf (c .before .before .before .before .before .before .before .reader-in .result)) (c .before .result-of .ensures) ∙ ap (λ (r : Reader). stepOf r (resultOf (c .before .before .before .before .before .before .before .before .args .violation) (c .before .before .before .before .before .before .before .before .args .byte) (c .before .before .before .before .before .before .before .before .args .control))) (c .before .before .before .before .before .before .before .reader-in .ensures) ∙ sym (step-done (c .before .before .before .before .before .before .before .before .args .bytes) (c .before .before .before .before .before .before .before .before .args .violation) (c .before .before .before .before .before .before .before .before .args .byte) (c .before .before .before .before .before .before .before .before .args .control) (sym (c .before .before .before .before .before .before .is-reader .ensures) ∙ not-false _ (c .before .before .before .before .before .if1 .left)) (c .before .before .before .before .if2 .left) (c .before .before .before .if3 .left) (c .before .before .if4 .left))
+returns-5 c =
+    let a = c .before .before .before .before .before .before .before .before .args in
+    c .step2 .ensures ∙ ap (stepOf (c .before .before .before .before .before .before .before .reader-in .result)) (c .before .result-of .ensures)
+    ∙ ap (λ (r : Reader). stepOf r (resultOf (a .violation) (a .byte) (a .control)))
+    (c .before .before .before .before .before .before .before .reader-in .ensures) ∙ sym (step-done (a .bytes) (a .violation) (a .byte)
+    (a .control) (sym (c .before .before .before .before .before .before .is-reader .ensures)
+    ∙ not-false _ (c .before .before .before .before .before .if1 .left)) (c .before .before .before .before .if2 .left)
+    (c .before .before .before .if3 .left) (c .before .before .if4 .left))
 
 pub step-spec : {M : Type 1} → statement M
 step-spec =

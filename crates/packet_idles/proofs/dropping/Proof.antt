@@ -80,4 +80,6 @@ unfolding dropOf
 returns-7 c = simp (c .moved7 .ensures, c .before .enum-told6 .given .1)
 
 pub dropping-spec : {M : Type 1} → statement M
-dropping-spec = tie.close (tie.spec enum-told moved-requires enum-told-2 moved-requires-2 enum-told-3 moved-requires-3 enum-known-k due-after-requires moved-requires-4 enum-told-4 moved-requires-5 enum-told-5 moved-requires-6 enum-told-6 moved-requires-7 returns returns-2 returns-3 returns-4 returns-5 returns-6 returns-7)
+dropping-spec =
+    tie.close
+    (tie.spec enum-told moved-requires enum-told-2 moved-requires-2 enum-told-3 moved-requires-3 enum-known-k due-after-requires moved-requires-4 enum-told-4 moved-requires-5 enum-told-5 moved-requires-6 enum-told-6 moved-requires-7 returns returns-2 returns-3 returns-4 returns-5 returns-6 returns-7)

@@ -88,4 +88,6 @@ unfolding idleOf
 returns-8 c = simp (c .violated6 .ensures, c .before .enum-told7 .given .1)
 
 pub in-idles-spec : {M : Type 1} → statement M
-in-idles-spec = tie.close (tie.spec enum-told violated-requires enum-told-2 moved-requires sub-t10 moved-requires-2 enum-told-3 violated-requires-2 enum-told-4 violated-requires-3 enum-told-5 violated-requires-4 enum-told-6 violated-requires-5 enum-told-7 violated-requires-6 returns returns-2 returns-3 returns-4 returns-5 returns-6 returns-7 returns-8)
+in-idles-spec =
+    tie.close
+    (tie.spec enum-told violated-requires enum-told-2 moved-requires sub-t10 moved-requires-2 enum-told-3 violated-requires-2 enum-told-4 violated-requires-3 enum-told-5 violated-requires-4 enum-told-6 violated-requires-5 enum-told-7 violated-requires-6 returns returns-2 returns-3 returns-4 returns-5 returns-6 returns-7 returns-8)

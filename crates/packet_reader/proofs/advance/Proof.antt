@@ -56,19 +56,43 @@ refused-requires-3 c κs = search needs
 
 returns : tie.Need-returns
 unfolding advanceOf
-returns c = simp (c .clean .ensures, c .before .before .c .given .1, c .before .before .before .before .before .before .result .given .1, ← c .before .before .before .before .classify .ensures)
+returns c =
+    simp (
+      c .clean .ensures,
+      c .before .before .c .given .1,
+      c .before .before .before .before .before .before .result .given .1,
+      ← c .before .before .before .before .classify .ensures,
+    )
 
 returns-2 : tie.Need-returns-2
 unfolding advanceOf
-returns-2 c = simp (c .refused .ensures, c .before .enum-told .given .1, c .before .before .before .before .before .result .given .1, ← c .before .before .before .classify .ensures)
+returns-2 c =
+    simp (
+      c .refused .ensures,
+      c .before .enum-told .given .1,
+      c .before .before .before .before .before .result .given .1,
+      ← c .before .before .before .classify .ensures,
+    )
 
 returns-3 : tie.Need-returns-3
 unfolding advanceOf
-returns-3 c = simp (c .spoiled .ensures, c .before .enum-told2 .given .1, c .before .before .before .before .before .result2 .given .1, ← c .before .before .before .classify2 .ensures)
+returns-3 c =
+    simp (
+      c .spoiled .ensures,
+      c .before .enum-told2 .given .1,
+      c .before .before .before .before .before .result2 .given .1,
+      ← c .before .before .before .classify2 .ensures,
+    )
 
 returns-4 : tie.Need-returns-4
 unfolding advanceOf
-returns-4 c = simp (c .refused2 .ensures, c .before .enum-told3 .given .1, c .before .before .before .before .before .result2 .given .1, ← c .before .before .before .classify2 .ensures)
+returns-4 c =
+    simp (
+      c .refused2 .ensures,
+      c .before .enum-told3 .given .1,
+      c .before .before .before .before .before .result2 .given .1,
+      ← c .before .before .before .classify2 .ensures,
+    )
 
 returns-5 : tie.Need-returns-5
 unfolding advanceOf
@@ -79,4 +103,6 @@ unfolding advanceOf
 returns-6 c = simp (c .refused3 .ensures, c .before .enum-told5 .given .1)
 
 pub advance-spec : {M : Type 1} → statement M
-advance-spec = tie.close (tie.spec enum-known-result classify-requires enum-known-c clean-requires enum-told refused-requires enum-known-result-2 classify-requires-2 enum-told-2 spoiled-requires enum-told-3 refused-requires-2 enum-told-4 spoiled-requires-2 enum-told-5 refused-requires-3 returns returns-2 returns-3 returns-4 returns-5 returns-6)
+advance-spec =
+    tie.close
+    (tie.spec enum-known-result classify-requires enum-known-c clean-requires enum-told refused-requires enum-known-result-2 classify-requires-2 enum-told-2 spoiled-requires enum-told-3 refused-requires-2 enum-told-4 spoiled-requires-2 enum-told-5 refused-requires-3 returns returns-2 returns-3 returns-4 returns-5 returns-6)

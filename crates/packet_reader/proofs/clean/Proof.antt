@@ -47,4 +47,6 @@ unfolding cleanOf
 returns-4 c = simp (c .dropping .ensures, c .before .enum-told2 .given .1)
 
 pub clean-spec : {M : Type 1} → statement M
-clean-spec = tie.close (tie.spec enum-told free-requires enum-known-phase in-sequence-requires enum-known-phase-2 in-idles-requires enum-told-2 dropping-requires returns returns-2 returns-3 returns-4)
+clean-spec =
+    tie.close
+    (tie.spec enum-told free-requires enum-known-phase in-sequence-requires enum-known-phase-2 in-idles-requires enum-told-2 dropping-requires returns returns-2 returns-3 returns-4)

@@ -77,4 +77,6 @@ unfolding seqOf
 returns-7 c = simp (c .violated6 .ensures, c .before .enum-told6 .given .1)
 
 pub in-sequence-spec : {M : Type 1} → statement M
-in-sequence-spec = tie.close (tie.spec enum-known-k due-byte-requires enum-told violated-requires enum-told-2 violated-requires-2 enum-told-3 violated-requires-3 enum-told-4 violated-requires-4 enum-told-5 violated-requires-5 enum-told-6 violated-requires-6 returns returns-2 returns-3 returns-4 returns-5 returns-6 returns-7)
+in-sequence-spec =
+    tie.close
+    (tie.spec enum-known-k due-byte-requires enum-told violated-requires enum-told-2 violated-requires-2 enum-told-3 violated-requires-3 enum-told-4 violated-requires-4 enum-told-5 violated-requires-5 enum-told-6 violated-requires-6 returns returns-2 returns-3 returns-4 returns-5 returns-6 returns-7)

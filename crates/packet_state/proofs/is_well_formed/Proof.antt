@@ -24,11 +24,24 @@ phase-rule-requires c κs = search needs
 
 returns : tie.Need-returns
 unfolding wellFormed
-returns c = simp (c .phase-rule .ensures, sym (c .before .before .priority-rule .ensures) ∙ c .before .if3 .taken, sym (c .before .before .before .before .data-rule .ensures) ∙ c .before .before .before .if2 .taken, sym (c .before .before .before .before .before .before .size-is-allowed .ensures) ∙ c .before .before .before .before .before .if1 .taken)
+returns c =
+    simp (
+      c .phase-rule .ensures,
+      sym (c .before .before .priority-rule .ensures) ∙ c .before .if3 .taken,
+      sym (c .before .before .before .before .data-rule .ensures) ∙ c .before .before .before .if2 .taken,
+      sym (c .before .before .before .before .before .before .size-is-allowed .ensures) ∙ c .before .before .before .before .before .if1 .taken,
+    )
 
 returns-2 : tie.Need-returns-2
 unfolding wellFormed
-returns-2 c = simp (sym (c .before .priority-rule .ensures) ∙ c .if3 .left, sym (c .before .before .before .data-rule .ensures) ∙ c .before .before .if2 .taken, sym (c .before .before .before .before .before .size-is-allowed .ensures) ∙ c .before .before .before .before .if1 .taken)
+returns-2 c =
+    simp (
+      sym (c .before .priority-rule .ensures) ∙ c .if3 .left,
+      sym (c .before .before .before .data-rule .ensures)
+          ∙ c .before .before .if2 .taken,
+      sym (c .before .before .before .before .before .size-is-allowed .ensures)
+          ∙ c .before .before .before .before .if1 .taken,
+    )
 
 returns-3 : tie.Need-returns-3
 unfolding wellFormed
@@ -39,4 +52,6 @@ unfolding wellFormed
 returns-4 c = simp (sym (c .before .size-is-allowed .ensures) ∙ c .if1 .left)
 
 pub is-well-formed-spec : {M : Type 1} → statement M
-is-well-formed-spec = tie.close (tie.spec cast-size-is-allowed size-is-allowed-requires data-rule-requires priority-rule-requires phase-rule-requires returns returns-2 returns-3 returns-4)
+is-well-formed-spec =
+    tie.close
+    (tie.spec cast-size-is-allowed size-is-allowed-requires data-rule-requires priority-rule-requires phase-rule-requires returns returns-2 returns-3 returns-4)

@@ -72,7 +72,13 @@ returns-3 c = simp (c .moved2 .ensures, c .before .enum-told2 .given .1)
 
 returns-4 : tie.Need-returns-4
 unfolding freeOf
-returns-4 c = simp (c .moved3 .ensures, sym (c .before .before .before .may-start .ensures) ∙ c .before .before .if1 .taken, c .before .before .before .before .before .k2 .given .1, c .before .due-after .ensures)
+returns-4 c =
+    simp (
+      c .moved3 .ensures,
+      sym (c .before .before .before .may-start .ensures) ∙ c .before .before .if1 .taken,
+      c .before .before .before .before .before .k2 .given .1,
+      c .before .due-after .ensures,
+    )
 
 returns-5 : tie.Need-returns-5
 unfolding freeOf
@@ -91,4 +97,6 @@ unfolding freeOf
 returns-8 c = simp (c .violated3 .ensures, c .before .enum-told4 .given .1)
 
 pub free-spec : {M : Type 1} → statement M
-free-spec = tie.close (tie.spec enum-known-k user-byte-requires enum-told moved-requires enum-told-2 moved-requires-2 enum-known-k-2 may-start-requires due-after-requires moved-requires-3 violated-requires enum-known-k-3 end-symbol-requires enum-told-3 violated-requires-2 enum-told-4 violated-requires-3 returns returns-2 returns-3 returns-4 returns-5 returns-6 returns-7 returns-8)
+free-spec =
+    tie.close
+    (tie.spec enum-known-k user-byte-requires enum-told moved-requires enum-told-2 moved-requires-2 enum-known-k-2 may-start-requires due-after-requires moved-requires-3 violated-requires enum-known-k-3 end-symbol-requires enum-told-3 violated-requires-2 enum-told-4 violated-requires-3 returns returns-2 returns-3 returns-4 returns-5 returns-6 returns-7 returns-8)

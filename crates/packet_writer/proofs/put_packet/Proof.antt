@@ -56,9 +56,13 @@ put-symbols-requires-2 c κs =
     let a = b .args in
     let bs = a .bytes .now in
     let ho : a .opening < 256 = omega arith in
-    let hc : c .before .before .before .before .before .before .before .before .before .before .before .before .run .result ≡ crcFrom crcStart bs = c .before .before .before .before .before .before .before .before .before .before .before .before .run .ensures ∙ ap (λ (x : ℕ). crcFrom x bs) (c .before .before .before .before .before .before .before .before .before .before .before .before .before .start .ensures) in
+    let hc : c .before .before .before .before .before .before .before .before .before .before .before .before .run .result ≡ crcFrom crcStart bs = c .before .before .before .before .before .before .before .before .before .before .before .before .run .ensures
+    ∙ ap (λ (x : ℕ). crcFrom x bs) (c .before .before .before .before .before .before .before .before .before .before .before .before .before .start .ensures) in
     let hr : c .before .before .before .before .before .before .before .before .before .before .before .before .run .result < 65536 = rw hc (crc-lt crcStart bs) in
-    let tail = closing-is (a .bad) (a .opening) (c .before .before .before .before .before .before .before .before .before .before .before .before .run .result) bs (c .before .before .before .before .before .before .before .before .before .before .before .end-number .result) ho hr (c .before .before .before .before .before .before .before .before .before .before .before .end-number .ensures) hc in
+    let tail = closing-is (a .bad) (a .opening)
+    (c .before .before .before .before .before .before .before .before .before .before .before .before .run .result) bs
+    (c .before .before .before .before .before .before .before .before .before .before .before .end-number .result) ho hr
+    (c .before .before .before .before .before .before .before .before .before .before .before .end-number .ensures) hc in
     let w = c .before .before .before .before .before .before .before .before .put-symbols in
     let v = c .before .before .before .before .put-bytes in
     let at : w .result .at ≡ a .p .at + 2 = ap (λ (x : Place). x .at) (w .ensures .next) in
@@ -77,13 +81,19 @@ returns c =
     let a = b .args in
     let bs = a .bytes .now in
     let ho : a .opening < 256 = omega arith in
-    let hc : c .before .before .before .before .before .before .before .before .before .before .before .before .before .before .before .run .result ≡ crcFrom crcStart bs = c .before .before .before .before .before .before .before .before .before .before .before .before .before .before .before .run .ensures ∙ ap (λ (x : ℕ). crcFrom x bs) (c .before .before .before .before .before .before .before .before .before .before .before .before .before .before .before .before .start .ensures) in
-    let hr : c .before .before .before .before .before .before .before .before .before .before .before .before .before .before .before .run .result < 65536 = rw hc (crc-lt crcStart bs) in
-    let tail = closing-is (a .bad) (a .opening) (c .before .before .before .before .before .before .before .before .before .before .before .before .before .before .before .run .result) bs (c .before .before .before .before .before .before .before .before .before .before .before .before .before .before .end-number .result) ho hr (c .before .before .before .before .before .before .before .before .before .before .before .before .before .before .end-number .ensures) hc in
+    let hc : c .before .before .before .before .before .before .before .before .before .before .before .before .before .before .before .run .result ≡ crcFrom crcStart bs = c .before .before .before .before .before .before .before .before .before .before .before .before .before .before .before .run .ensures
+    ∙ ap (λ (x : ℕ). crcFrom x bs) (c .before .before .before .before .before .before .before .before .before .before .before .before .before .before .before .before .start .ensures) in
+    let hr : c .before .before .before .before .before .before .before .before .before .before .before .before .before .before .before .run .result < 65536 = rw hc
+    (crc-lt crcStart bs) in
+    let tail = closing-is (a .bad) (a .opening)
+    (c .before .before .before .before .before .before .before .before .before .before .before .before .before .before .before .run .result) bs
+    (c .before .before .before .before .before .before .before .before .before .before .before .before .before .before .end-number .result) ho hr
+    (c .before .before .before .before .before .before .before .before .before .before .before .before .before .before .end-number .ensures) hc in
     let room = b .pre .0 in
     packet-is (a .p) (a .start) (a .opening) bs (a .bad) ho tail
     (wrote-more
-    (wrote-more (c .before .before .before .before .before .before .before .before .before .before .before .put-symbols .ensures) (c .before .before .before .before .before .before .before .put-bytes .ensures) (omega (arith, room)))
+    (wrote-more (c .before .before .before .before .before .before .before .before .before .before .before .put-symbols .ensures)
+    (c .before .before .before .before .before .before .before .put-bytes .ensures) (omega (arith, room)))
     (c .before .before .put-symbols2 .ensures) (omega (arith, room, length-map dataSymbol bs)))
 
 pub put-packet-spec : {M : Type 1} → statement M

@@ -81,7 +81,8 @@ returns-2 c =
     let d = a .disparity in
     let m = inPriority (a .channel) (a .segment) (a .bytes .now) (a .bad) in
     let z = toZ-ofZ w32 d (b .fits .disparity) in
-    let e = c .before .before .before .before .before .before .priority-refusal .ensures ∙ ap (λ (x : ℤ). refusalOf (packetChecks (a .size) m x (length (a .out .now)))) z in
+    let e = c .before .before .before .before .before .before .priority-refusal .ensures
+    ∙ ap (λ (x : ℤ). refusalOf (packetChecks (a .size) m x (length (a .out .now)))) z in
     let no : refusalOf (packetChecks (a .size) m d (length (a .out .now))) ≡ 0 = sym e ∙ c .before .before .before .before .before .if1 .left in
     let ok = priority-passed (a .size) (a .channel) (a .segment) (a .bytes .now) (a .bad) d (length (a .out .now)) no in
     let h : (16 * a .segment + a .channel) % 256 ≡ 16 * a .segment + a .channel = omega (arith, ok .1, ok .2) in

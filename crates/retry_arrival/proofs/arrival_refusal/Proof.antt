@@ -21,7 +21,13 @@ returns-2 c = simp (le-ltb _ _ (c .if2 .taken), sym (c .before .before .receiver
 
 returns-3 : tie.Need-returns-3
 unfolding arrivalChecks
-returns-3 c = simp (le-ltb _ _ (c .if3 .taken), lt-ltb _ _ (c .before .if2 .left), sym (c .before .before .before .receiver-is-ruled .ensures) ∙ not-false _ (c .before .before .if1 .left))
+returns-3 c =
+    simp (
+      le-ltb _ _ (c .if3 .taken),
+      lt-ltb _ _ (c .before .if2 .left),
+      sym (c .before .before .before .receiver-is-ruled .ensures)
+          ∙ not-false _ (c .before .before .if1 .left),
+    )
 
 cast-if4 : tie.Need-cast-if4
 cast-if4 c = search needs
@@ -57,7 +63,8 @@ returns-6 c = simp (
   le-ltb _ _ (c .before .before .before .before .if4 .left),
   lt-ltb _ _ (c .before .before .before .before .before .before .if3 .left),
   lt-ltb _ _ (c .before .before .before .before .before .before .before .if2 .left),
-  sym (c .before .before .before .before .before .before .before .before .before .receiver-is-ruled .ensures) ∙ not-false _ (c .before .before .before .before .before .before .before .before .if1 .left),
+  sym (c .before .before .before .before .before .before .before .before .before .receiver-is-ruled .ensures)
+      ∙ not-false _ (c .before .before .before .before .before .before .before .before .if1 .left),
 )
 
 returns-7 : tie.Need-returns-7
@@ -69,7 +76,8 @@ returns-7 c = simp (
   le-ltb _ _ (c .before .before .before .before .if4 .left),
   lt-ltb _ _ (c .before .before .before .before .before .before .if3 .left),
   lt-ltb _ _ (c .before .before .before .before .before .before .before .if2 .left),
-  sym (c .before .before .before .before .before .before .before .before .before .receiver-is-ruled .ensures) ∙ not-false _ (c .before .before .before .before .before .before .before .before .if1 .left),
+  sym (c .before .before .before .before .before .before .before .before .before .receiver-is-ruled .ensures)
+      ∙ not-false _ (c .before .before .before .before .before .before .before .before .if1 .left),
 )
 
 returns-8 : tie.Need-returns-8
@@ -80,8 +88,11 @@ returns-8 c = simp (
   le-ltb _ _ (c .before .before .before .if4 .left),
   lt-ltb _ _ (c .before .before .before .before .before .if3 .left),
   lt-ltb _ _ (c .before .before .before .before .before .before .if2 .left),
-  sym (c .before .before .before .before .before .before .before .before .receiver-is-ruled .ensures) ∙ not-false _ (c .before .before .before .before .before .before .before .if1 .left),
+  sym (c .before .before .before .before .before .before .before .before .receiver-is-ruled .ensures)
+      ∙ not-false _ (c .before .before .before .before .before .before .before .if1 .left),
 )
 
 pub arrival-refusal-spec : {M : Type 1} → statement M
-arrival-refusal-spec = tie.close (tie.spec receiver-is-ruled-requires returns returns-2 returns-3 cast-if4 returns-4 returns-5 is-wanted-requires returns-6 returns-7 returns-8)
+arrival-refusal-spec =
+    tie.close
+    (tie.spec receiver-is-ruled-requires returns returns-2 returns-3 cast-if4 returns-4 returns-5 is-wanted-requires returns-6 returns-7 returns-8)

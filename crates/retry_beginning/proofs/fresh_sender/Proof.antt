@@ -21,7 +21,8 @@ returns : tie.Need-returns
 unfolding freshSenderOf
 returns c =
     let a = c .before .before .before .args in
-    refuses (freshChecks (a .columns) (a .size)) _ (c .before .before .fresh-refusal .ensures) (refusedSender noSender) _ (c .before .if1 .taken) (simp (c .sender-with .ensures))
+    refuses (freshChecks (a .columns) (a .size)) _ (c .before .before .fresh-refusal .ensures) (refusedSender noSender) _ (c .before .if1 .taken)
+    (simp (c .sender-with .ensures))
 
 cast-sender-with : tie.Need-cast-sender-with
 unfolding freshSenderOf
@@ -44,7 +45,8 @@ returns-2 : tie.Need-returns-2
 unfolding freshSenderOf
 returns-2 c =
     let a = c .before .before .before .args in
-    works (freshChecks (a .columns) (a .size)) _ (c .before .before .fresh-refusal .ensures) (refusedSender noSender) _ (c .before .if1 .left) (simp (c .sender-with2 .ensures))
+    works (freshChecks (a .columns) (a .size)) _ (c .before .before .fresh-refusal .ensures) (refusedSender noSender) _ (c .before .if1 .left)
+    (simp (c .sender-with2 .ensures))
 
 pub fresh-sender-spec : {M : Type 1} → statement M
 fresh-sender-spec = tie.close (tie.spec fresh-refusal-requires sender-with-requires returns cast-sender-with cast-sender-with-2 sender-with-requires-2 returns-2)

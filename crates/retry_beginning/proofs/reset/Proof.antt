@@ -41,7 +41,8 @@ returns-2 : tie.Need-returns-2
 unfolding resetOf
 returns-2 c =
     let a = c .before .before .before .args in
-    works (resetChecks (a .sender) (a .columns) (a .size)) _ (c .before .before .reset-refusal .ensures) (refusedSender (a .sender)) _ (c .before .if1 .left) (simp (c .sender-with .ensures))
+    works (resetChecks (a .sender) (a .columns) (a .size)) _ (c .before .before .reset-refusal .ensures) (refusedSender (a .sender)) _
+    (c .before .if1 .left) (simp (c .sender-with .ensures))
 
 pub reset-spec : {M : Type 1} → statement M
 reset-spec = tie.close (tie.spec reset-refusal-requires returns cast-sender-with cast-sender-with-2 sender-with-requires returns-2)

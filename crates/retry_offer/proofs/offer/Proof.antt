@@ -40,7 +40,8 @@ cast-stored-in c = omega (arith, (seen (c .before .before .before .before .befor
 cast-stored-in-2 : tie.Need-cast-stored-in-2
 cast-stored-in-2 c = omega (
   arith,
-  fits-length (call (c .before .before .before .before .before .before .before .before .before .before .before)) (seen (c .before .before .before .before .before .before .before)),
+  fits-length (call (c .before .before .before .before .before .before .before .before .before .before .before))
+      (seen (c .before .before .before .before .before .before .before)),
 )
 
 stored-in-requires : tie.Need-stored-in-requires
@@ -58,4 +59,6 @@ returns-2 c =
     (c .before .before .before .before .lay .ensures .1 ∙ laid-where _ _ _ (fits-buffer v p _ at) ∙ ap (λ (k : ℕ). laid (v .buffers) k (v .bytes)) at)
 
 pub offer-spec : {M : Type 1} → statement M
-offer-spec = tie.close (tie.spec offer-refusal-requires returns buffer-of-requires lay-requires after-requires cast-stored-in cast-stored-in-2 stored-in-requires same-length returns-2)
+offer-spec =
+    tie.close
+    (tie.spec offer-refusal-requires returns buffer-of-requires lay-requires after-requires cast-stored-in cast-stored-in-2 stored-in-requires same-length returns-2)

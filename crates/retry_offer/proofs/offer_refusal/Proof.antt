@@ -33,7 +33,8 @@ mul-if3 c = search needs
 returns-3 : tie.Need-returns-3
 unfolding offerChecks
 returns-3 c = simp (
-  ne-eqb (c .before .before .before .before .before .before .before .args .lent) (8 * (c .before .before .before .before .before .before .before .args .sender .counters .size)) (c .if3 .taken),
+  ne-eqb (c .before .before .before .before .before .before .before .args .lent)
+      (8 * (c .before .before .before .before .before .before .before .args .sender .counters .size)) (c .if3 .taken),
   sym (c .before .before .before .sender-is-ruled .ensures) ∙ not-false _ (c .before .before .if2 .left),
   ne-eqb (c .before .before .before .before .before .before .before .args .sender .counters .link) 2 (c .before .before .before .before .if1 .left),
   or-true,
@@ -43,7 +44,8 @@ returns-4 : tie.Need-returns-4
 unfolding offerChecks
 returns-4 c = simp (
   le-ltb (c .before .before .before .before .before .before .before .before .args .channel) 16 (c .if4 .taken),
-  eq-eqb (c .before .before .before .before .before .before .before .before .args .lent) (8 * (c .before .before .before .before .before .before .before .before .args .sender .counters .size)) (c .before .if3 .left),
+  eq-eqb (c .before .before .before .before .before .before .before .before .args .lent)
+      (8 * (c .before .before .before .before .before .before .before .before .args .sender .counters .size)) (c .before .if3 .left),
   sym (c .before .before .before .before .sender-is-ruled .ensures) ∙ not-false _ (c .before .before .before .if2 .left),
   ne-eqb (c .before .before .before .before .before .before .before .before .args .sender .counters .link) 2 (c .before .before .before .before .before .if1 .left),
 )
@@ -54,22 +56,30 @@ cast-if5 c = search needs
 returns-5 : tie.Need-returns-5
 unfolding offerChecks
 returns-5 c = simp (
-  lt-ltb (c .before .before .before .before .before .before .before .before .before .before .args .sender .counters .size) (c .before .before .before .before .before .before .before .before .before .before .args .length) (c .if5 .taken),
+  lt-ltb (c .before .before .before .before .before .before .before .before .before .before .args .sender .counters .size)
+      (c .before .before .before .before .before .before .before .before .before .before .args .length) (c .if5 .taken),
   lt-ltb (c .before .before .before .before .before .before .before .before .before .before .args .channel) 16 (c .before .before .if4 .left),
-  eq-eqb (c .before .before .before .before .before .before .before .before .before .before .args .lent) (8 * (c .before .before .before .before .before .before .before .before .before .before .args .sender .counters .size)) (c .before .before .before .if3 .left),
+  eq-eqb (c .before .before .before .before .before .before .before .before .before .before .args .lent)
+      (8 * (c .before .before .before .before .before .before .before .before .before .before .args .sender .counters .size))
+      (c .before .before .before .if3 .left),
   sym (c .before .before .before .before .before .before .sender-is-ruled .ensures) ∙ not-false _ (c .before .before .before .before .before .if2 .left),
-  ne-eqb (c .before .before .before .before .before .before .before .before .before .before .args .sender .counters .link) 2 (c .before .before .before .before .before .before .before .if1 .left),
+  ne-eqb (c .before .before .before .before .before .before .before .before .before .before .args .sender .counters .link) 2
+      (c .before .before .before .before .before .before .before .if1 .left),
 )
 
 returns-6 : tie.Need-returns-6
 unfolding offerChecks
 returns-6 c = simp (
   eq-eqb (c .before .before .before .before .before .before .before .before .before .before .before .args .length) 0 (c .if6 .taken),
-  le-ltb (c .before .before .before .before .before .before .before .before .before .before .before .args .sender .counters .size) (c .before .before .before .before .before .before .before .before .before .before .before .args .length) (c .before .if5 .left),
+  le-ltb (c .before .before .before .before .before .before .before .before .before .before .before .args .sender .counters .size)
+      (c .before .before .before .before .before .before .before .before .before .before .before .args .length) (c .before .if5 .left),
   lt-ltb (c .before .before .before .before .before .before .before .before .before .before .before .args .channel) 16 (c .before .before .before .if4 .left),
-  eq-eqb (c .before .before .before .before .before .before .before .before .before .before .before .args .lent) (8 * (c .before .before .before .before .before .before .before .before .before .before .before .args .sender .counters .size)) (c .before .before .before .before .if3 .left),
+  eq-eqb (c .before .before .before .before .before .before .before .before .before .before .before .args .lent)
+      (8 * (c .before .before .before .before .before .before .before .before .before .before .before .args .sender .counters .size))
+      (c .before .before .before .before .if3 .left),
   sym (c .before .before .before .before .before .before .before .sender-is-ruled .ensures) ∙ not-false _ (c .before .before .before .before .before .before .if2 .left),
-  ne-eqb (c .before .before .before .before .before .before .before .before .before .before .before .args .sender .counters .link) 2 (c .before .before .before .before .before .before .before .before .if1 .left),
+  ne-eqb (c .before .before .before .before .before .before .before .before .before .before .before .args .sender .counters .link) 2
+      (c .before .before .before .before .before .before .before .before .if1 .left),
 )
 
 returns-7 : tie.Need-returns-7
@@ -77,11 +87,18 @@ unfolding offerChecks
 returns-7 c = simp (
   eq-eqb (c .before .before .before .before .before .before .before .before .before .before .before .before .before .args .sender .counters .stored) 8 (c .if7 .taken),
   ne-eqb (c .before .before .before .before .before .before .before .before .before .before .before .before .before .args .length) 0 (c .before .before .if6 .left),
-  le-ltb (c .before .before .before .before .before .before .before .before .before .before .before .before .before .args .sender .counters .size) (c .before .before .before .before .before .before .before .before .before .before .before .before .before .args .length) (c .before .before .before .if5 .left),
-  lt-ltb (c .before .before .before .before .before .before .before .before .before .before .before .before .before .args .channel) 16 (c .before .before .before .before .before .if4 .left),
-  eq-eqb (c .before .before .before .before .before .before .before .before .before .before .before .before .before .args .lent) (8 * (c .before .before .before .before .before .before .before .before .before .before .before .before .before .args .sender .counters .size)) (c .before .before .before .before .before .before .if3 .left),
-  sym (c .before .before .before .before .before .before .before .before .before .sender-is-ruled .ensures) ∙ not-false _ (c .before .before .before .before .before .before .before .before .if2 .left),
-  ne-eqb (c .before .before .before .before .before .before .before .before .before .before .before .before .before .args .sender .counters .link) 2 (c .before .before .before .before .before .before .before .before .before .before .if1 .left),
+  le-ltb (c .before .before .before .before .before .before .before .before .before .before .before .before .before .args .sender .counters .size)
+      (c .before .before .before .before .before .before .before .before .before .before .before .before .before .args .length)
+      (c .before .before .before .if5 .left),
+  lt-ltb (c .before .before .before .before .before .before .before .before .before .before .before .before .before .args .channel) 16
+      (c .before .before .before .before .before .if4 .left),
+  eq-eqb (c .before .before .before .before .before .before .before .before .before .before .before .before .before .args .lent)
+      (8 * (c .before .before .before .before .before .before .before .before .before .before .before .before .before .args .sender .counters .size))
+      (c .before .before .before .before .before .before .if3 .left),
+  sym (c .before .before .before .before .before .before .before .before .before .sender-is-ruled .ensures)
+      ∙ not-false _ (c .before .before .before .before .before .before .before .before .if2 .left),
+  ne-eqb (c .before .before .before .before .before .before .before .before .before .before .before .before .before .args .sender .counters .link) 2
+      (c .before .before .before .before .before .before .before .before .before .before .if1 .left),
 )
 
 returns-8 : tie.Need-returns-8
@@ -89,11 +106,18 @@ unfolding offerChecks
 returns-8 c = simp (
   ne-eqb (c .before .before .before .before .before .before .before .before .before .before .before .before .before .args .sender .counters .stored) 8 (c .if7 .left),
   ne-eqb (c .before .before .before .before .before .before .before .before .before .before .before .before .before .args .length) 0 (c .before .before .if6 .left),
-  le-ltb (c .before .before .before .before .before .before .before .before .before .before .before .before .before .args .sender .counters .size) (c .before .before .before .before .before .before .before .before .before .before .before .before .before .args .length) (c .before .before .before .if5 .left),
-  lt-ltb (c .before .before .before .before .before .before .before .before .before .before .before .before .before .args .channel) 16 (c .before .before .before .before .before .if4 .left),
-  eq-eqb (c .before .before .before .before .before .before .before .before .before .before .before .before .before .args .lent) (8 * (c .before .before .before .before .before .before .before .before .before .before .before .before .before .args .sender .counters .size)) (c .before .before .before .before .before .before .if3 .left),
-  sym (c .before .before .before .before .before .before .before .before .before .sender-is-ruled .ensures) ∙ not-false _ (c .before .before .before .before .before .before .before .before .if2 .left),
-  ne-eqb (c .before .before .before .before .before .before .before .before .before .before .before .before .before .args .sender .counters .link) 2 (c .before .before .before .before .before .before .before .before .before .before .if1 .left),
+  le-ltb (c .before .before .before .before .before .before .before .before .before .before .before .before .before .args .sender .counters .size)
+      (c .before .before .before .before .before .before .before .before .before .before .before .before .before .args .length)
+      (c .before .before .before .if5 .left),
+  lt-ltb (c .before .before .before .before .before .before .before .before .before .before .before .before .before .args .channel) 16
+      (c .before .before .before .before .before .if4 .left),
+  eq-eqb (c .before .before .before .before .before .before .before .before .before .before .before .before .before .args .lent)
+      (8 * (c .before .before .before .before .before .before .before .before .before .before .before .before .before .args .sender .counters .size))
+      (c .before .before .before .before .before .before .if3 .left),
+  sym (c .before .before .before .before .before .before .before .before .before .sender-is-ruled .ensures)
+      ∙ not-false _ (c .before .before .before .before .before .before .before .before .if2 .left),
+  ne-eqb (c .before .before .before .before .before .before .before .before .before .before .before .before .before .args .sender .counters .link) 2
+      (c .before .before .before .before .before .before .before .before .before .before .if1 .left),
 )
 
 pub offer-refusal-spec : {M : Type 1} → statement M

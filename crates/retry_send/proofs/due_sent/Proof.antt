@@ -12,7 +12,9 @@ after-requires : tie.Need-after-requires
 after-requires c κs = search needs
 
 array-read-t11 : tie.Need-array-read-t11
-array-read-t11 c = below (c .before .before .before .before .before .before .before .args .sender .counters) _ _ (c .before .before .before .before .before .slot-of .ensures)
+array-read-t11 c =
+    below (c .before .before .before .before .before .before .before .args .sender .counters) _ _
+    (c .before .before .before .before .before .slot-of .ensures)
 
 array-read-t14 : tie.Need-array-read-t14
 array-read-t14 c = search needs

@@ -31,7 +31,9 @@ unsent-requires-2 : tie.Need-unsent-requires-2
 unsent-requires-2 c κs = search needs
 
 returns-2 : tie.Need-returns-2
-returns-2 c = sends-nothing (call (c .before .before .before .before .before .before .before .before)) (seen (c .before .before .before .before)) _ (c .before .if2 .taken) (c .unsent2 .ensures)
+returns-2 c =
+    sends-nothing (call (c .before .before .before .before .before .before .before .before)) (seen (c .before .before .before .before)) _
+    (c .before .if2 .taken) (c .unsent2 .ensures)
 
 due-sent-requires : tie.Need-due-sent-requires
 due-sent-requires c κs = few (call (c .before .before .before .before .before .before .before)) (seen (c .before .before .before)) (c .if2 .left)
@@ -46,7 +48,11 @@ add-to : tie.Need-add-to
 add-to c =
     let v = call (c .before .before .before .before .before .before .before .before .before .before) in
     let length = ap (λ (a : Sent). a .length) (c .before .before .due-sent .ensures) in
-    omega (arith, within v (seen (c .before .before .before .before .before .before)) (c .before .before .before .if2 .left) _ _ (c .before .buffer-of .ensures) length .below)
+    omega (
+      arith,
+      within v (seen (c .before .before .before .before .before .before)) (c .before .before .before .if2 .left) _ _
+          (c .before .buffer-of .ensures) length .below,
+    )
 
 sub-lay : tie.Need-sub-lay
 sub-lay c = search needs
@@ -77,4 +83,6 @@ returns-3 c =
     (c .before .before .lay .ensures .1 ∙ laid-where _ 0 _ (omega (arith, part-length v p more _ _ (within v p more _ _ from length))))
 
 pub send-spec : {M : Type 1} → statement M
-send-spec = tie.close (tie.spec send-refusal-requires unsent-requires returns unsent-requires-2 returns-2 due-sent-requires buffer-of-requires cast-to add-to sub-lay part-lay-start part-lay-end lay-requires same-length returns-3)
+send-spec =
+    tie.close
+    (tie.spec send-refusal-requires unsent-requires returns unsent-requires-2 returns-2 due-sent-requires buffer-of-requires cast-to add-to sub-lay part-lay-start part-lay-end lay-requires same-length returns-3)

@@ -34,7 +34,8 @@ mul-if3 c = search needs
 returns-3 : tie.Need-returns-3
 unfolding sendChecks
 returns-3 c = simp (
-  ne-eqb (c .before .before .before .before .before .before .before .args .lent) (8 * (c .before .before .before .before .before .before .before .args .sender .counters .size)) (c .if3 .taken),
+  ne-eqb (c .before .before .before .before .before .before .before .args .lent)
+      (8 * (c .before .before .before .before .before .before .before .args .sender .counters .size)) (c .if3 .taken),
   sym (c .before .before .before .sender-is-ruled .ensures) ∙ not-false _ (c .before .before .if2 .left),
   ne-eqb (c .before .before .before .before .before .before .before .args .sender .counters .link) 2 (c .before .before .before .before .if1 .left),
 )
@@ -51,10 +52,16 @@ cast-if5 c = search needs
 returns-4 : tie.Need-returns-4
 unfolding sendChecks
 returns-4 c = simp (
-  lt-ltb (c .before .before .before .before .before .before .before .before .before .before .before .before .args .sender .counters .point) (c .before .before .before .before .before .before .before .before .before .before .before .before .args .sender .counters .stored) (c .before .before .before .if4 .taken),
-  eq-eqb (c .before .before .before .before .before .before .before .before .before .before .before .before .args .lent) (8 * (c .before .before .before .before .before .before .before .before .before .before .before .before .args .sender .counters .size)) (c .before .before .before .before .before .if3 .left),
-  sym (c .before .before .before .before .before .before .before .before .sender-is-ruled .ensures) ∙ not-false _ (c .before .before .before .before .before .before .before .if2 .left),
-  ne-eqb (c .before .before .before .before .before .before .before .before .before .before .before .before .args .sender .counters .link) 2 (c .before .before .before .before .before .before .before .before .before .if1 .left),
+  lt-ltb (c .before .before .before .before .before .before .before .before .before .before .before .before .args .sender .counters .point)
+      (c .before .before .before .before .before .before .before .before .before .before .before .before .args .sender .counters .stored)
+      (c .before .before .before .if4 .taken),
+  eq-eqb (c .before .before .before .before .before .before .before .before .before .before .before .before .args .lent)
+      (8 * (c .before .before .before .before .before .before .before .before .before .before .before .before .args .sender .counters .size))
+      (c .before .before .before .before .before .if3 .left),
+  sym (c .before .before .before .before .before .before .before .before .sender-is-ruled .ensures)
+      ∙ not-false _ (c .before .before .before .before .before .before .before .if2 .left),
+  ne-eqb (c .before .before .before .before .before .before .before .before .before .before .before .before .args .sender .counters .link) 2
+      (c .before .before .before .before .before .before .before .before .before .if1 .left),
   ← c .before .held-length .ensures,
   ← c .before .before .slot-of .ensures,
   lt-ltb _ _ (c .if5 .taken),
@@ -63,10 +70,16 @@ returns-4 c = simp (
 returns-5 : tie.Need-returns-5
 unfolding sendChecks
 returns-5 c = simp (
-  lt-ltb (c .before .before .before .before .before .before .before .before .before .before .before .before .args .sender .counters .point) (c .before .before .before .before .before .before .before .before .before .before .before .before .args .sender .counters .stored) (c .before .before .before .if4 .taken),
-  eq-eqb (c .before .before .before .before .before .before .before .before .before .before .before .before .args .lent) (8 * (c .before .before .before .before .before .before .before .before .before .before .before .before .args .sender .counters .size)) (c .before .before .before .before .before .if3 .left),
-  sym (c .before .before .before .before .before .before .before .before .sender-is-ruled .ensures) ∙ not-false _ (c .before .before .before .before .before .before .before .if2 .left),
-  ne-eqb (c .before .before .before .before .before .before .before .before .before .before .before .before .args .sender .counters .link) 2 (c .before .before .before .before .before .before .before .before .before .if1 .left),
+  lt-ltb (c .before .before .before .before .before .before .before .before .before .before .before .before .args .sender .counters .point)
+      (c .before .before .before .before .before .before .before .before .before .before .before .before .args .sender .counters .stored)
+      (c .before .before .before .if4 .taken),
+  eq-eqb (c .before .before .before .before .before .before .before .before .before .before .before .before .args .lent)
+      (8 * (c .before .before .before .before .before .before .before .before .before .before .before .before .args .sender .counters .size))
+      (c .before .before .before .before .before .if3 .left),
+  sym (c .before .before .before .before .before .before .before .before .sender-is-ruled .ensures)
+      ∙ not-false _ (c .before .before .before .before .before .before .before .if2 .left),
+  ne-eqb (c .before .before .before .before .before .before .before .before .before .before .before .before .args .sender .counters .link) 2
+      (c .before .before .before .before .before .before .before .before .before .if1 .left),
   ← c .before .held-length .ensures,
   ← c .before .before .slot-of .ensures,
   le-ltb _ _ (c .if5 .left),
@@ -75,11 +88,16 @@ returns-5 c = simp (
 returns-6 : tie.Need-returns-6
 unfolding sendChecks
 returns-6 c = simp (
-  le-ltb (c .before .before .before .before .before .before .before .before .before .args .sender .counters .point) (c .before .before .before .before .before .before .before .before .before .args .sender .counters .stored) (c .if4 .left),
-  eq-eqb (c .before .before .before .before .before .before .before .before .before .args .lent) (8 * (c .before .before .before .before .before .before .before .before .before .args .sender .counters .size)) (c .before .before .if3 .left),
+  le-ltb (c .before .before .before .before .before .before .before .before .before .args .sender .counters .point)
+      (c .before .before .before .before .before .before .before .before .before .args .sender .counters .stored) (c .if4 .left),
+  eq-eqb (c .before .before .before .before .before .before .before .before .before .args .lent)
+      (8 * (c .before .before .before .before .before .before .before .before .before .args .sender .counters .size)) (c .before .before .if3 .left),
   sym (c .before .before .before .before .before .sender-is-ruled .ensures) ∙ not-false _ (c .before .before .before .before .if2 .left),
-  ne-eqb (c .before .before .before .before .before .before .before .before .before .args .sender .counters .link) 2 (c .before .before .before .before .before .before .if1 .left),
+  ne-eqb (c .before .before .before .before .before .before .before .before .before .args .sender .counters .link) 2
+      (c .before .before .before .before .before .before .if1 .left),
 )
 
 pub send-refusal-spec : {M : Type 1} → statement M
-send-refusal-spec = tie.close (tie.spec returns sender-is-ruled-requires returns-2 cast-if3 mul-if3 returns-3 slot-of-requires held-length-requires cast-if5 returns-4 returns-5 returns-6)
+send-refusal-spec =
+    tie.close
+    (tie.spec returns sender-is-ruled-requires returns-2 cast-if3 mul-if3 returns-3 slot-of-requires held-length-requires cast-if5 returns-4 returns-5 returns-6)

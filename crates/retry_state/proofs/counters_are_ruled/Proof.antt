@@ -22,7 +22,12 @@ count-is-ruled-requires c κs = search needs
 
 returns-2 : tie.Need-returns-2
 unfolding countersRule
-returns-2 c = simp (sym (c .before .count-is-ruled .ensures) ∙ not-true _ (c .if2 .taken), sym (c .before .before .before .size-is-allowed .ensures) ∙ not-false _ (c .before .before .if1 .left))
+returns-2 c =
+    simp (
+      sym (c .before .count-is-ruled .ensures) ∙ not-true _ (c .if2 .taken),
+      sym (c .before .before .before .size-is-allowed .ensures)
+          ∙ not-false _ (c .before .before .if1 .left),
+    )
 
 window-is-ruled-requires : tie.Need-window-is-ruled-requires
 window-is-ruled-requires c κs = search needs
@@ -48,4 +53,6 @@ returns-4 c = simp (
 )
 
 pub counters-are-ruled-spec : {M : Type 1} → statement M
-counters-are-ruled-spec = tie.close (tie.spec cast-size-is-allowed size-is-allowed-requires returns count-is-ruled-requires returns-2 window-is-ruled-requires returns-3 timer-is-ruled-requires returns-4)
+counters-are-ruled-spec =
+    tie.close
+    (tie.spec cast-size-is-allowed size-is-allowed-requires returns count-is-ruled-requires returns-2 window-is-ruled-requires returns-3 timer-is-ruled-requires returns-4)

@@ -26,7 +26,9 @@ returns-2 c = simp (
 
 returns-3 : tie.Need-returns-3
 unfolding linkRule
-returns-3 c = simp (ne-eqb (c .before .before .before .before .args .c .link) 2 (c .if2 .left), ne-eqb (c .before .before .before .before .args .c .link) 1 (c .before .before .if1 .left))
+returns-3 c =
+    let a = c .before .before .before .before .args in
+    simp (ne-eqb (a .c .link) 2 (c .if2 .left), ne-eqb (a .c .link) 1 (c .before .before .if1 .left))
 
 pub link-is-ruled-spec : {M : Type 1} → statement M
 link-is-ruled-spec = tie.close (tie.spec up-is-ruled-requires returns down-is-ruled-requires returns-2 returns-3)

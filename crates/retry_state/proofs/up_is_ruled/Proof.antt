@@ -8,11 +8,14 @@ returns : tie.Need-returns
 returns c = simp (le-ltb (c .before .before .args .c .expiries) 3 (c .if1 .taken))
 
 returns-2 : tie.Need-returns-2
-returns-2 c = simp (lt-ltb 0 (c .before .before .before .before .args .c .outstanding) (c .if2 .taken), lt-ltb (c .before .before .before .before .args .c .expiries) 3 (c .before .before .if1 .left))
+returns-2 c =
+    let a = c .before .before .before .before .args in
+    simp (lt-ltb 0 (a .c .outstanding) (c .if2 .taken), lt-ltb (a .c .expiries) 3 (c .before .before .if1 .left))
 
 returns-3 : tie.Need-returns-3
 returns-3 c = simp (
-  eq-eqb (c .before .before .before .before .before .before .before .args .c .timer) (c .before .before .before .before .before .before .before .args .c .columns) (c .before .if3 .taken),
+  eq-eqb (c .before .before .before .before .before .before .before .args .c .timer)
+      (c .before .before .before .before .before .before .before .args .c .columns) (c .before .if3 .taken),
   le-ltb 0 (c .before .before .before .before .before .before .before .args .c .outstanding) (c .before .before .before .if2 .left),
   lt-ltb (c .before .before .before .before .before .before .before .args .c .expiries) 3 (c .before .before .before .before .before .if1 .left),
 )

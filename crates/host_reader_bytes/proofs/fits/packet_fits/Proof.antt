@@ -22,7 +22,12 @@ packet-channel-requires c κs = search needs
 
 returns-2 : tie.Need-returns-2
 unfolding packetFits
-returns-2 c = simp (ap (λ (t : ℕ). eqb t (c .before .before .before .before .args .tag)) (sym (c .before .before .before .packet-tag .ensures)) ∙ eq-eqb _ _ (c .before .before .if1 .left), ap (λ (t : ℕ). eqb t (c .before .before .before .before .args .channel)) (sym (c .before .packet-channel .ensures)) ∙ ne-eqb _ _ (c .if2 .taken))
+returns-2 c =
+    let a = c .before .before .before .before .args in
+    simp (
+      ap (λ (t : ℕ). eqb t (a .tag)) (sym (c .before .before .before .packet-tag .ensures)) ∙ eq-eqb _ _ (c .before .before .if1 .left),
+      ap (λ (t : ℕ). eqb t (a .channel)) (sym (c .before .packet-channel .ensures)) ∙ ne-eqb _ _ (c .if2 .taken),
+    )
 
 packet-register-requires : tie.Need-packet-register-requires
 packet-register-requires c κs = search needs
@@ -35,7 +40,12 @@ add-result c = search needs
 
 returns-3 : tie.Need-returns-3
 unfolding packetFits
-returns-3 c = held (ap (λ (t : ℕ). eqb t (c .before .before .before .before .before .args .tag)) (sym (c .before .before .before .before .packet-tag .ensures)) ∙ eq-eqb _ _ (c .before .before .before .if1 .left)) (held (ap (λ (t : ℕ). eqb t (c .before .before .before .before .before .args .channel)) (sym (c .before .before .packet-channel .ensures)) ∙ eq-eqb _ _ (c .before .if2 .left)) (ap (λ (t : ℕ). eqb t (two (c .before .before .before .before .before .args .high) (c .before .before .before .before .before .args .low))) (c .packet-register .ensures)))
+returns-3 c =
+    let a = c .before .before .before .before .before .args in
+    held (ap (λ (t : ℕ). eqb t (a .tag)) (sym (c .before .before .before .before .packet-tag .ensures)) ∙ eq-eqb _ _
+    (c .before .before .before .if1 .left)) (held
+    (ap (λ (t : ℕ). eqb t (a .channel)) (sym (c .before .before .packet-channel .ensures)) ∙ eq-eqb _ _ (c .before .if2 .left))
+    (ap (λ (t : ℕ). eqb t (two (a .high) (a .low))) (c .packet-register .ensures)))
 
 pub packet-fits-spec : {M : Type 1} → statement M
 packet-fits-spec =

@@ -22,14 +22,24 @@ phase-first-requires c κs = search needs
 
 returns-2 : tie.Need-returns-2
 unfolding phaseFits
-returns-2 c = simp (ap (λ (t : ℕ). eqb t (c .before .before .before .before .args .tag)) (sym (c .before .before .before .phase-tag .ensures)) ∙ eq-eqb _ _ (c .before .before .if1 .left), ap (λ (t : ℕ). eqb t (c .before .before .before .before .args .a)) (sym (c .before .phase-first .ensures)) ∙ ne-eqb _ _ (c .if2 .taken))
+returns-2 c =
+    let a = c .before .before .before .before .args in
+    simp (
+      ap (λ (t : ℕ). eqb t (a .tag)) (sym (c .before .before .before .phase-tag .ensures)) ∙ eq-eqb _ _ (c .before .before .if1 .left),
+      ap (λ (t : ℕ). eqb t (a .a)) (sym (c .before .phase-first .ensures)) ∙ ne-eqb _ _ (c .if2 .taken),
+    )
 
 phase-second-requires : tie.Need-phase-second-requires
 phase-second-requires c κs = search needs
 
 returns-3 : tie.Need-returns-3
 unfolding phaseFits
-returns-3 c = held (ap (λ (t : ℕ). eqb t (c .before .before .before .before .before .args .tag)) (sym (c .before .before .before .before .phase-tag .ensures)) ∙ eq-eqb _ _ (c .before .before .before .if1 .left)) (held (ap (λ (t : ℕ). eqb t (c .before .before .before .before .before .args .a)) (sym (c .before .before .phase-first .ensures)) ∙ eq-eqb _ _ (c .before .if2 .left)) (ap (λ (t : ℕ). eqb t (c .before .before .before .before .before .args .b)) (c .phase-second .ensures)))
+returns-3 c =
+    let a = c .before .before .before .before .before .args in
+    held (ap (λ (t : ℕ). eqb t (a .tag)) (sym (c .before .before .before .before .phase-tag .ensures)) ∙ eq-eqb _ _
+    (c .before .before .before .if1 .left)) (held
+    (ap (λ (t : ℕ). eqb t (a .a)) (sym (c .before .before .phase-first .ensures)) ∙ eq-eqb _ _ (c .before .if2 .left))
+    (ap (λ (t : ℕ). eqb t (a .b)) (c .phase-second .ensures)))
 
 pub phase-fits-spec : {M : Type 1} → statement M
 phase-fits-spec =

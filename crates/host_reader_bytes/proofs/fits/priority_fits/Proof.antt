@@ -22,7 +22,12 @@ priority-opening-requires c κs = search needs
 
 returns-2 : tie.Need-returns-2
 unfolding priorityFits
-returns-2 c = simp (ap (λ (t : ℕ). eqb t (c .before .before .before .before .args .tag)) (sym (c .before .before .before .priority-tag .ensures)) ∙ eq-eqb _ _ (c .before .before .if1 .left), ap (λ (t : ℕ). eqb t (c .before .before .before .before .args .opening)) (sym (c .before .priority-opening .ensures)) ∙ ne-eqb _ _ (c .if2 .taken))
+returns-2 c =
+    let a = c .before .before .before .before .args in
+    simp (
+      ap (λ (t : ℕ). eqb t (a .tag)) (sym (c .before .before .before .priority-tag .ensures)) ∙ eq-eqb _ _ (c .before .before .if1 .left),
+      ap (λ (t : ℕ). eqb t (a .opening)) (sym (c .before .priority-opening .ensures)) ∙ ne-eqb _ _ (c .if2 .taken),
+    )
 
 priority-count-requires : tie.Need-priority-count-requires
 priority-count-requires c κs = search needs
@@ -35,7 +40,14 @@ add-if3 c = search needs
 
 returns-3 : tie.Need-returns-3
 unfolding priorityFits
-returns-3 c = simp (ap (λ (t : ℕ). eqb t (c .before .before .before .before .before .before .args .tag)) (sym (c .before .before .before .before .before .priority-tag .ensures)) ∙ eq-eqb _ _ (c .before .before .before .before .if1 .left), ap (λ (t : ℕ). eqb t (c .before .before .before .before .before .before .args .opening)) (sym (c .before .before .before .priority-opening .ensures)) ∙ eq-eqb _ _ (c .before .before .if2 .left), ap (λ (t : ℕ). eqb t (two (c .before .before .before .before .before .before .args .count-high) (c .before .before .before .before .before .before .args .count-low))) (sym (c .before .priority-count .ensures)) ∙ ne-eqb _ _ (c .if3 .taken))
+returns-3 c =
+    let a = c .before .before .before .before .before .before .args in
+    simp (
+      ap (λ (t : ℕ). eqb t (a .tag)) (sym (c .before .before .before .before .before .priority-tag .ensures))
+          ∙ eq-eqb _ _ (c .before .before .before .before .if1 .left),
+      ap (λ (t : ℕ). eqb t (a .opening)) (sym (c .before .before .before .priority-opening .ensures)) ∙ eq-eqb _ _ (c .before .before .if2 .left),
+      ap (λ (t : ℕ). eqb t (two (a .count-high) (a .count-low))) (sym (c .before .priority-count .ensures)) ∙ ne-eqb _ _ (c .if3 .taken),
+    )
 
 priority-register-requires : tie.Need-priority-register-requires
 priority-register-requires c κs = search needs
@@ -48,7 +60,13 @@ add-result c = search needs
 
 returns-4 : tie.Need-returns-4
 unfolding priorityFits
-returns-4 c = held (ap (λ (t : ℕ). eqb t (c .before .before .before .before .before .before .before .args .tag)) (sym (c .before .before .before .before .before .before .priority-tag .ensures)) ∙ eq-eqb _ _ (c .before .before .before .before .before .if1 .left)) (held (ap (λ (t : ℕ). eqb t (c .before .before .before .before .before .before .before .args .opening)) (sym (c .before .before .before .before .priority-opening .ensures)) ∙ eq-eqb _ _ (c .before .before .before .if2 .left)) (held (ap (λ (t : ℕ). eqb t (two (c .before .before .before .before .before .before .before .args .count-high) (c .before .before .before .before .before .before .before .args .count-low))) (sym (c .before .before .priority-count .ensures)) ∙ eq-eqb _ _ (c .before .if3 .left)) (ap (λ (t : ℕ). eqb t (two (c .before .before .before .before .before .before .before .args .high) (c .before .before .before .before .before .before .before .args .low))) (c .priority-register .ensures))))
+returns-4 c =
+    let a = c .before .before .before .before .before .before .before .args in
+    held (ap (λ (t : ℕ). eqb t (a .tag)) (sym (c .before .before .before .before .before .before .priority-tag .ensures)) ∙ eq-eqb _ _
+    (c .before .before .before .before .before .if1 .left)) (held (ap (λ (t : ℕ). eqb t (a .opening))
+    (sym (c .before .before .before .before .priority-opening .ensures)) ∙ eq-eqb _ _ (c .before .before .before .if2 .left)) (held
+    (ap (λ (t : ℕ). eqb t (two (a .count-high) (a .count-low))) (sym (c .before .before .priority-count .ensures))
+    ∙ eq-eqb _ _ (c .before .if3 .left)) (ap (λ (t : ℕ). eqb t (two (a .high) (a .low))) (c .priority-register .ensures))))
 
 pub priority-fits-spec : {M : Type 1} → statement M
 priority-fits-spec =
