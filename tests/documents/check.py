@@ -1,8 +1,8 @@
 #!/usr/bin/env python3
 """Every name that a document puts between backticks is there: a crate, a file, an edit, or a word of the sources.
 
-Fails, naming document, line and name. A row that names a theorem, a definition or an edit that is gone is found here; that
-the named thing says what the row says is for the reader. Fails too where docs/TRUST.md counts a crate's lines of definition
+Fails, naming document, line and name. A row that names a theorem, a definition or an edit that is gone, or an edit or a file
+of a crate that another crate has, is found here; that the named thing says what the row says is for the reader. Fails too where docs/TRUST.md counts a crate's lines of definition
 otherwise than they are, or has no row for a crate of rules.
 """
 import pathlib
@@ -55,6 +55,17 @@ def missing(span, known):
             yield token
 
 
+def astray(span):
+    """Whether a span names, by its crate, an edit or a file of specs/ or proofs/ that this crate does not have."""
+    path = pathlib.Path(span)
+    crate = ROOT / "crates" / path.parts[0] if path.parts else ROOT
+    if not re.fullmatch(r"[\w/.]+", span) or len(path.parts) < 2 or not crate.is_dir():
+        return False
+    there = crate.joinpath(*path.parts[1:])
+    edit = crate / "must-fail" / f"{path.parts[-1]}.edit"
+    return not (there.exists() or there.with_suffix(".antt").exists() or (len(path.parts) == 2 and edit.exists()))
+
+
 def definitions(crate):
     """Lines of definition of a crate: those of specs/ without comments, imports and lists of modules."""
     lines = [line.strip() for path in (crate / "specs").rglob("*.antt") for line in path.read_text(encoding="utf-8").split("\n")]
@@ -77,6 +88,7 @@ def main():
     for name in DOCUMENTS:
         for number, span in spans((ROOT / name).read_text(encoding="utf-8")):
             faults += [f"{name}:{number}: `{span}`: {token} is nowhere in the tree" for token in missing(span, known)]
+            faults += [f"{name}:{number}: `{span}` is not in that crate"] if astray(span) else []
     print("\n".join(faults) if faults else "documents: every name that they give is there")
     return 1 if faults else 0
 

@@ -34,7 +34,7 @@ pub fn unpack_result(result: u16) -> Decoded
 }
 
 // The result that an entry holds for a disparity.
-fn result_in(entry: u16, plus: bool) -> u16
+pub fn result_in(entry: u16, plus: bool) -> u16
     ensures { λ r. ⌜ r ≡ resultIn entry plus ⌝ }
 {
     if plus {

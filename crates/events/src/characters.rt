@@ -2,7 +2,6 @@
 ghost use mathlib.Core.Path.{_≡_};
 ghost use Prim.Native.Nat.{_≤_, _<_};
 ghost use lib.ListN.{length, getD};
-ghost use Rattle.character_table.specs.Entries.{resultIn};
 ghost use Rattle.character_table.specs.Table.{table};
 ghost use Rattle.character_rules.specs.Disparity.{disparityOf};
 ghost use Rattle.character_rules.specs.Reading.{reading};
@@ -18,20 +17,10 @@ pub(crate) fn character_in(capture: &[u8], i: usize) -> usize
     capture::ten_bits(capture[k], capture[k + 1], 6 - 10 * i % 8)
 }
 
-// The result that an entry holds for a disparity.
-fn result_in(entry: u16, plus: bool) -> u16
-    ensures { λ r. ⌜ r ≡ resultIn entry plus ⌝ }
-{
-    if plus {
-        return entry % 512 + entry / 4096 % 8 * 512;
-    }
-    entry % 4096
-}
-
 pub(crate) fn look_up(entries: &[u16; 1024], character: usize, plus: bool) -> u16
     requires { ⌜ (now entries ≡ table) × (character < 1024) ⌝ }
     ensures { λ r. ⌜ r ≡ packed (reading character (disparityOf plus)) ⌝ }
 {
     let entry = entries[character];
-    result_in(entry, plus)
+    character_reader::result_in(entry, plus)
 }

@@ -1,11 +1,11 @@
 // Runs of user bytes, which are most of a capture: while a packet takes bytes, each clean data symbol is an event and a step of the CRC.
 use crate::Place;
 use crate::characters;
+use packet_open::register_in;
 use packet_rules::DataPacket;
 use packet_rules::Phase;
 use packet_rules::PriorityPacket;
 use packet_rules::Reader;
-use packet_open::register_in;
 ghost use mathlib.Core.Path.{_≡_};
 ghost use mathlib.Core.Bool.{true};
 ghost use Prim.Native.Nat.{_+_, _≤_, _<_};
