@@ -1,6 +1,6 @@
 -- What the calls on a capture come to, case by case, in the order of the refusals: for the code that makes the tests, and for whoever calls it.
 -- Assumes nothing.
-use mathlib.Core.Path.{_≡_}
+use mathlib.Core.Path.{_≡_, ap}
 use mathlib.Core.Bool.{true, false}
 use mathlib.Core.List.{List, _++_}
 use Prim.Native.Nat.{ℕ, _≤_, _<_}
@@ -9,9 +9,10 @@ use lib.Dec.{ltb, ltb→lt, lt→ltb}
 use lib.ListN.{length, getD, drop}
 use borrow.Author.Tests.{lt-ltb, le-ltb}
 use Rattle.laws.specs.Groups.{allBelow}
+use Rattle.laws.proofs.Cases.{some-is-not-none}
 use Rattle.laws.proofs.Iff.{iff-eq}
 use Rattle.refusal.specs.Order.{refusalOf}
-use Rattle.refusal.proofs.Laws.{hands-back}
+use Rattle.refusal.proofs.Laws.{hands-back, refused-leaves}
 use Rattle.capture_rules.specs.Capture.{characterCount, charactersOf, legal, byteCount, packOf}
 use Rattle.capture_rules.specs.Calls.{Said, answered, refused, countSays, characterSays, packChecks, packSays, packLeaves, unpackChecks, unpackSays, unpackLeaves}
 
@@ -21,6 +22,10 @@ too-many n =
     iff-eq (ltb 65535 (byteCount n)) (ltb 52428 n)
     (λ t. let h = ltb→lt 65535 (byteCount n) t in lt→ltb 52428 n (omega arith))
     (λ t. let h = ltb→lt 52428 n t in lt→ltb 65535 (byteCount n) (omega arith))
+
+-- what is answered is no refusal
+not-answered : (m n : ℕ) → answered m ≡ refused n → ⊥
+not-answered m n z = some-is-not-none (ap (λ (s : Said). s .number) z)
 
 module _ (capture : List ℕ) where
   pub count-illegal : legal capture ≡ false → countSays capture ≡ refused 8
@@ -85,6 +90,10 @@ module _ (cs old : List ℕ) where
   unfolding packLeaves
   pack-hands-back h = hands-back (packChecks cs (length old)) old (packOf cs ++ drop (byteCount (length cs)) old) h
 
+  pub pack-leaves : (n : ℕ) → refused n ≡ packSays cs (length old) → packLeaves cs old ≡ old
+  unfolding packSays packLeaves
+  pack-leaves n e = refused-leaves (packChecks cs (length old)) refused (answered (byteCount (length cs))) n (not-answered _ n) e old _
+
 module _ (capture old : List ℕ) where
   abbrev pub UnpackComes : Said → List ℕ → Type 0
   UnpackComes said left = Comes (unpackSays capture (length old)) said (unpackLeaves capture old) left
@@ -109,3 +118,7 @@ module _ (capture old : List ℕ) where
   pub unpack-hands-back : (refusalOf (unpackChecks capture (length old)) ≡ 0 → ⊥) → unpackLeaves capture old ≡ old
   unfolding unpackLeaves
   unpack-hands-back h = hands-back (unpackChecks capture (length old)) old (charactersOf capture ++ drop (characterCount (length capture)) old) h
+
+  pub unpack-leaves : (n : ℕ) → refused n ≡ unpackSays capture (length old) → unpackLeaves capture old ≡ old
+  unfolding unpackSays unpackLeaves
+  unpack-leaves n e = refused-leaves (unpackChecks capture (length old)) refused (answered (characterCount (length capture))) n (not-answered _ n) e old _

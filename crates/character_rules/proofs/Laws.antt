@@ -11,6 +11,7 @@ use borrow.Author.Tests.{le-ltb, lt-ltb}
 use native.Mathlib.Omega.{arith}
 use Rattle.refusal.specs.Order.{check, outcome}
 use Rattle.laws.proofs.Bools.{T-true}
+use Rattle.laws.proofs.Cases.{some-is-not-none}
 use Rattle.symbol.specs.Symbols.{isWritable}
 use Rattle.symbol.specs.declared.Symbol.{Symbol}
 use Rattle.character_rules.specs.Disparity.{isDisparity}
@@ -67,6 +68,4 @@ reading-refused c d n = go (ltb 1023 c) (isDisparity d)
     go false false e = ap (λ (r : Reading). r .refusal) e
     go false true e =
         let h = has-disparity d (firstWith symbols c d) (firstWith symbols c (negℤ d)) in
-        let a : none ≡ some (h .0) = ap (λ (r : Reading). r .disparity) e ∙ h .1 in
-        let z : _≡_ {A = ℕ} 0 1 = cc in
-        absurd (omega arith)
+        absurd (some-is-not-none (sym (ap (λ (r : Reading). r .disparity) e ∙ h .1)))

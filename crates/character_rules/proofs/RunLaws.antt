@@ -15,6 +15,7 @@ use borrow.Author.Tests.{lt-ltb, le-ltb}
 use Rattle.refusal.specs.Order.{Check, check, outcome, left}
 use Rattle.laws.specs.Lists.{allOf}
 use Rattle.laws.proofs.Bools.{and-left, and-right}
+use Rattle.laws.proofs.Cases.{some-is-not-none}
 use Rattle.character_rules.specs.Disparity.{isPlus, isDisparity, disparityOf}
 use Rattle.character_rules.specs.Answers.{Reading, RunReading, runRead, notRunRead}
 use Rattle.character_rules.specs.Reading.{reading}
@@ -62,10 +63,7 @@ module _ (cs : List ℕ) (d : ℤ) (out : List ℕ) where
       go false q s e = refl
       go true false s e = refl
       go true true true e = refl
-      go true true false e =
-          let a : none ≡ some (runClosing cs d) = ap (λ (r : RunReading). r .disparity) e in
-          let z : _≡_ {A = ℕ} 0 1 = cc in
-          absurd (omega arith)
+      go true true false e = absurd (some-is-not-none (sym (ap (λ (r : RunReading). r .disparity) e)))
 
 -- ---- every character in range
 

@@ -11,6 +11,7 @@ use lib.IntN.{ℤ, pos, negsuc, negℤ}
 use borrow.Author.Tests.{eq-eqb, ne-eqb}
 use Rattle.laws.specs.Lists.{allOf}
 use Rattle.laws.proofs.Bools.{and-left, and-right}
+use Rattle.laws.proofs.Cases.{some-is-not-none}
 use Rattle.symbol.specs.Symbols.{byteOf, dataSymbol, controlSymbol, isTwelve, isSymbol}
 use Rattle.symbol.specs.declared.Symbol.{Symbol}
 use Rattle.character_rules.specs.Disparity.{isPlus}
@@ -59,9 +60,7 @@ storesNothing s d = record { refusal = 0; character = none; disparity = some d }
 pub stores-nothing-refuted : (reader : Reader) → RoundTrip reader storesNothing → ⊥
 stores-nothing-refuted reader r =
     let p = one reader storesNothing r 0 tt in
-    let a : none ≡ some (p .0) = ap (λ (x : Writing). x .character) (p .2) in
-    let z : _≡_ {A = ℕ} 0 1 = cc in
-    omega arith
+    some-is-not-none (sym (ap (λ (x : Writing). x .character) (p .2)))
 
 -- a writer that always stores the same character, whatever disparity it says
 abbrev pub sameCharacter : ℕ → (Symbol → ℤ → ℤ) → Writer

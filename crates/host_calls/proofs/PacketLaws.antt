@@ -5,18 +5,18 @@ use mathlib.Core.Path.{_≡_, refl, sym, ap, _∙_}
 use mathlib.Core.List.{List}
 use lib.IntN.{ℤ}
 use lib.ListN.{length}
-use Rattle.character_rules.specs.Writing.{closingOf}
 use Rattle.packet_rules.specs.declared.Reader.{Reader}
 use Rattle.packet_rules.specs.Answers.{Answer, made, notMade}
 use Rattle.packet_rules.specs.State.{freshReader}
-use Rattle.packet_rules.specs.Packets.{Packet, PacketWriting, wrote, notWrote, symbolsOf, packetChecks, packetWriting, packetOutput}
+use Rattle.packet_rules.specs.Packets.{Packet, wrote, notWrote, packetWriting, packetOutput}
+use Rattle.packet_rules.proofs.Packets.{packet-leaves}
 use Rattle.host_rules.specs.declared.Told.{Told}
 use Rattle.host_rules.specs.Numbers.{Called, called}
 use Rattle.host_rules.specs.ReaderBytes.{readerBytes}
 use Rattle.host_rules.specs.Stepping.{stepNumbers, toldOf}
 use Rattle.host_rules.proofs.Numbers.{done-called, refused-called}
 use Rattle.host_calls.specs.PacketCalls.{begins, Steps, steps, WritesPacket, writesPacket}
-use Rattle.host_calls.proofs.Same.{same-called, given-is-not-none, refused-leaves}
+use Rattle.host_calls.proofs.Same.{same-called}
 
 module _ (size : ℕ) (old : List ℕ) where
   pub begin-done : (r : Reader) → made r ≡ freshReader size → begins size old ≡ record { refusal = 0; lent = readerBytes r }
@@ -51,15 +51,8 @@ module _ (size : ℕ) (packet : Packet) (old : WritesPacket) where
   unfolding writesPacket
   packet-done n d e = rw (← e) (done-called _ _ _ refl)
 
-  packet-leaves : (n : ℕ) → notWrote n ≡ packetWriting size packet (old .disparity) (old .characters) → characters ≡ old .characters
-  unfolding packetWriting packetOutput
-  packet-leaves n e =
-      refused-leaves (packetChecks size packet (old .disparity) (length (old .characters))) notWrote (wrote (length (symbolsOf packet))
-      (closingOf (symbolsOf packet) (old .disparity))) n
-      (λ z. given-is-not-none (ap (λ (w : PacketWriting). w .count) z)) e (old .characters) _
-
   pub packet-refused :
       (n : ℕ) → notWrote n ≡ packetWriting size packet (old .disparity) (old .characters)
       → writesPacket size packet old ≡ record { refusal = n; lent = record { disparity = old .disparity; characters = characters; count = old .count } }
   unfolding writesPacket
-  packet-refused n e = rw (← e, packet-leaves n e) (same-called n old)
+  packet-refused n e = rw (← e, packet-leaves size packet (old .disparity) (old .characters) n e) (same-called n old)

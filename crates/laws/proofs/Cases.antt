@@ -1,7 +1,8 @@
 -- Going by the two cases of a test, and tests that are equal to `true`.
 -- Assumes nothing.
-use mathlib.Core.Path.{_≡_, refl, sym, subst}
+use mathlib.Core.Path.{_≡_, refl, sym, ap, subst}
 use mathlib.Core.Bool.{Bool, true, false, not, cond, _&&_, _||_}
+use mathlib.Core.Option.{Option, none, some}
 use lib.Dec.{T}
 
 -- what holds of both arms, each with what the test says there, holds of the `cond`
@@ -44,3 +45,11 @@ cond-true b x y e = subst (λ (t : Bool). cond t x y ≡ x) (sym e) refl
 
 pub cond-false : {A : Type 0} (b : Bool) (x y : A) → b ≡ false → cond b x y ≡ y
 cond-false b x y e = subst (λ (t : Bool). cond t x y ≡ y) (sym e) refl
+
+abbrev isSome : {A : Type 0} → Option A → Bool
+isSome none = false
+isSome (some x) = true
+
+-- what gives a value is not what gives none
+pub some-is-not-none : {A : Type 0} {x : A} → some x ≡ none → ⊥
+some-is-not-none e = false-is-not-true (sym (ap isSome e))

@@ -12,18 +12,21 @@ use lib.Dec.{T, eqb, ltb, lt→ltb}
 use lib.IntN.{ℤ}
 use lib.ListN.{length, length-append}
 use Rattle.laws.specs.Lists.{allOf}
+use Rattle.laws.proofs.Cases.{some-is-not-none}
 use Rattle.laws.proofs.Bools.{and-left, and-right, and-both, T-true}
 use Rattle.refusal.specs.Order.{refusalOf}
+use Rattle.refusal.proofs.Laws.{refused-leaves}
 use Rattle.symbol.specs.Symbols.{dataSymbol, controlSymbol, isTwelve}
 use Rattle.symbol.specs.declared.Symbol.{Symbol}
 use Rattle.character_rules.specs.Disparity.{isDisparity}
 use Rattle.character_rules.specs.Demand.{canWrite}
+use Rattle.character_rules.specs.Writing.{closingOf}
 use Rattle.crc.specs.Crc16.{crcStart, crcFrom, checkBytesOf, crcOf}
 use Rattle.crc.proofs.Laws.{check-bytes}
 use Rattle.packet_rules.specs.Answers.{Said, gaveByte}
 use Rattle.segment_size.specs.Sizes.{sizeAllowed}
 use Rattle.packet_rules.specs.Line.{SPP, SDP, SLP, endSymbol, Fill, reply, Inside, end, byte, closing, PriorityLine, priority, Within, fill, nested, DataLine, packet, Outside, within, data-packet}
-use Rattle.packet_rules.specs.Packets.{Packet, inData, inPriority, retry, packetSymbols, retryByte, symbolsOf, packetChecks, saidFor}
+use Rattle.packet_rules.specs.Packets.{Packet, inData, inPriority, retry, packetSymbols, retryByte, symbolsOf, packetChecks, saidFor, PacketWriting, wrote, notWrote, packetWriting, packetOutput}
 use Rattle.packet_rules.specs.RoundTrip.{Allowed}
 use Rattle.packet_rules.proofs.Read.{all-append}
 
@@ -126,3 +129,11 @@ accepted s (inPriority c g bytes bad) d room ok h t l =
       le-ltb room (length bytes + 6) (omega (arith, length-packet SPP (16 * g + c) bytes bad)),
     )
 accepted s (retry nack n) d room ok h t l = simp (T-true (isDisparity d) t, le-ltb 15 n (omega arith), le-ltb room 4 l)
+
+-- ---- a refused call leaves the output as it stood
+
+pub packet-leaves : (s : ℕ) (p : Packet) (d : ℤ) (out : List ℕ) (n : ℕ) → notWrote n ≡ packetWriting s p d out → packetOutput s p d out ≡ out
+unfolding packetWriting packetOutput
+packet-leaves s p d out n e =
+    refused-leaves (packetChecks s p d (length out)) notWrote (wrote (length (symbolsOf p)) (closingOf (symbolsOf p) d)) n
+    (λ z. some-is-not-none (ap (λ (w : PacketWriting). w .count) z)) e out _

@@ -10,6 +10,7 @@ use lib.IntN.{ℤ}
 use lib.ListN.{length, take, drop, length-drop}
 use lib.Seq.{take-all, drop-drop, drop-length}
 use Rattle.laws.proofs.Bools.{T-true}
+use Rattle.laws.proofs.Cases.{some-is-not-none}
 use Rattle.symbol.specs.Symbols.{dataSymbol}
 use Rattle.character_rules.specs.Disparity.{isDisparity}
 use Rattle.character_rules.specs.Answers.{RunWriting, runWritten, notRunWritten}
@@ -64,7 +65,4 @@ module _ (p : Place) (bs old : List ℕ) (room : p .at + length bs ≤ length ol
 
   -- and it was not refused
   pub run-not-refused : (n : ℕ) → notRunWritten n ≡ runWriting bs (p .disparity) (length part) → ⊥
-  run-not-refused n h = none-some (ap (λ (w : RunWriting). w .disparity) (h ∙ sym (done .0)))
-    where
-      none-some : {a : ℤ} → _≡_ {A = Option ℤ} none (some a) → ⊥
-      none-some e = let z : _≡_ {A = ℕ} 0 1 = cc e in omega arith
+  run-not-refused n h = some-is-not-none (sym (ap (λ (w : RunWriting). w .disparity) (h ∙ sym (done .0))))

@@ -12,6 +12,7 @@ use lib.IntN.{ℤ}
 use lib.ListN.{length, set, take, drop, length-append, take-append-drop}
 use lib.Seq.{set-split, take-at, drop-at, drop-drop, length-take-le}
 use Rattle.symbol.specs.declared.Symbol.{Symbol}
+use Rattle.laws.proofs.Cases.{some-is-not-none}
 use Rattle.character_rules.specs.Disparity.{isDisparity}
 use Rattle.character_rules.specs.Blocks.{character, closing}
 use Rattle.character_rules.specs.Answers.{Writing, written, notWritten}
@@ -86,7 +87,4 @@ module _ (x : Symbol) (d : ℤ) (can : T (canWrite x)) (t : T (isDisparity d)) w
   wrote-closing c e q = Option·some-injective _ _ (ap (λ (w : Writing). w .disparity) (q ∙ writes x d can t))
 
   pub not-refused : (n : ℕ) → notWritten n ≡ writing x d → ⊥
-  not-refused n q = none-some (ap (λ (w : Writing). w .character) (q ∙ writes x d can t))
-    where
-      none-some : {a : ℕ} → _≡_ {A = Option ℕ} none (some a) → ⊥
-      none-some e = let z : _≡_ {A = ℕ} 0 1 = cc e in omega arith
+  not-refused n q = some-is-not-none (sym (ap (λ (w : Writing). w .character) (q ∙ writes x d can t)))

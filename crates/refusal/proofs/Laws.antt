@@ -20,3 +20,12 @@ module _ {A : Type 0} (cs : List Check) where
   -- a refusal hands back what it was given
   pub hands-back : (old new : A) → (refusalOf cs ≡ 0 → ⊥) → left cs old new ≡ old
   hands-back old new h = refused (λ n. old) new h
+
+module _ {A : Type 0} (cs : List Check) (f : ℕ → A) (x : A) (n : ℕ) (apart : x ≡ f n → ⊥) (e : f n ≡ outcome cs f x) where
+  -- a call that answers with a refusal, and not with its work, is refused
+  stops : refusalOf cs ≡ 0 → ⊥
+  stops z = apart (sym (e ∙ done cs f x z))
+
+  -- it leaves what it was lent
+  pub refused-leaves : {B : Type 0} (old new : B) → left cs old new ≡ old
+  refused-leaves old new = hands-back cs old new stops
