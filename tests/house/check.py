@@ -2,7 +2,8 @@
 """The house is in order: files a reader can take in, and names that cannot be taken for one another.
 
 Fails, naming the place, where a file has over 300 lines, where a line of a source or a definition is over WIDE characters,
-where a crate shares its name with a module of another crate, or where a file does not begin by saying what it is for.
+where a crate shares its name with a module of another crate, where a file does not begin by saying what it is for, or where
+it brings in a name that it does not use.
 """
 import pathlib
 import re
@@ -22,6 +23,20 @@ def texts():
                 yield path
 
 
+def unused(lines):
+    """The names that `use` lines of antt bring in and that nothing below them has."""
+    import_line = re.compile(r"(?:ghost )?use [^\s{]+\.\{([^}]*)\};?$")
+    body = "\n".join(re.sub(r"--.*|//.*", "", line) for line in lines if not import_line.match(line))
+    words = set(re.split(r"[\s(){}⌜⌝,;.\[\]]+", body))
+    for line in lines:
+        found = import_line.match(line)
+        for name in found.group(1).split(",") if found else []:
+            name = name.split(" as ")[-1].strip()
+            parts = [part for part in name.split("_") if part] if "_" in name else []
+            if not (all(part in body for part in parts) if parts else name in words or (name == "[]" and name in body) or name == "arith"):
+                yield name
+
+
 def faults():
     crates = {path.name for path in (ROOT / "crates").iterdir()}
     for path in texts():
@@ -38,6 +53,8 @@ def faults():
             modules = re.findall(r"^(?:pub )?mod (\w+);", "\n".join(lines), re.M)
             for module in sorted(crates.intersection(modules) - {own}):
                 yield f"{name}: the module {module} has the name of a crate"
+        if path.suffix in (".antt", ".rt"):
+            yield from (f"{name}: {word} is brought in and not used" for word in unused(lines))
         if path.suffix == ".antt" and path.name != "Lib.antt" and not lines[0].startswith("--"):
             yield f"{name}: does not say what it is for"
         if path.suffix == ".rt" and not lines[0].startswith("//"):

@@ -1,13 +1,13 @@
 -- A packed result taken apart, by cases over plain numbers.
 -- Assumes nothing.
-use mathlib.Core.Path.{_≡_, refl, sym, _∙_, ap}
-use mathlib.Core.Bool.{Bool, true, false, cond}
+use mathlib.Core.Path.{_≡_, refl, _∙_, ap}
+use mathlib.Core.Bool.{Bool, true, false}
 use Prim.Native.Nat.{ℕ, _/_, _%_}
-use lib.Dec.{T, eqb}
+use lib.Dec.{eqb}
 use lib.IntN.{ℤ}
 use borrow.Author.Tests.{eq-eqb, ne-eqb}
-use Rattle.character_rules.specs.Disparity.{isDisparity, disparityOf}
-use Rattle.character_rules.specs.Answers.{Reading, clean, wrongDisparity, invalid}
+use Rattle.character_rules.specs.Disparity.{disparityOf}
+use Rattle.character_rules.specs.Answers.{clean, wrongDisparity, invalid}
 use Rattle.character_rules.specs.Results.{packedSymbol, packedDisparity, unpacked}
 use Rattle.disparity.proofs.Signed.{again}
 

@@ -5,7 +5,6 @@ use character_print::print_refusal;
 use character_print::space;
 use character_rules::Decoded;
 use character_rules::RunRead;
-use symbol::Symbol;
 
 fn print_disparity(d: i32) {
     if d == 1 {

@@ -1,16 +1,15 @@
 -- What writing and reading come to, where they are not refused and where they are.
 -- Assumes nothing.
 use mathlib.Core.Path.{_≡_, refl, sym, _∙_, ap, ap₂}
-use mathlib.Core.Bool.{Bool, true, false, not, _&&_, _||_}
-use mathlib.Core.List.{List, [], _∷_}
+use mathlib.Core.Bool.{Bool, true, false, not, _||_}
+use mathlib.Core.List.{[], _∷_}
 use mathlib.Core.Option.{Option, none, some}
 use Prim.Native.Nat.{ℕ, _<_, _≤_}
-use lib.Dec.{T, ltb}
+use lib.Dec.{ltb}
 use lib.IntN.{ℤ, negℤ}
 use borrow.Author.Tests.{le-ltb, lt-ltb}
 use native.Mathlib.Omega.{arith}
 use Rattle.refusal.specs.Order.{check, outcome}
-use Rattle.laws.proofs.Bools.{T-true}
 use Rattle.laws.proofs.Cases.{some-is-not-none}
 use Rattle.symbol.specs.Symbols.{isWritable}
 use Rattle.symbol.specs.declared.Symbol.{Symbol}

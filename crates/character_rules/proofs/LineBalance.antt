@@ -1,11 +1,11 @@
 -- On the whole line the balance stays within three at each bit, and no bit is repeated more than five times running.
 -- Assumes nothing.
 use mathlib.Core.Path.{_≡_, refl, sym, subst, ap}
-use mathlib.Core.Bool.{Bool, true, false, cond, not, _&&_, _||_}
+use mathlib.Core.Bool.{Bool, true, false, cond, _&&_}
 use mathlib.Core.List.{List, [], _∷_, _++_}
-use Prim.Native.Nat.{ℕ, zero, suc, _+_, _<_, _≤_}
+use Prim.Native.Nat.{ℕ, zero, suc, _+_, _≤_}
 use native.Mathlib.Omega.{arith}
-use lib.Dec.{T, eqb, leb, leb→le, ltb, ltb→lt}
+use lib.Dec.{T, eqb, leb, leb→le}
 use lib.ListN.{take, replicate}
 use lib.IntN.{ℤ}
 use borrow.Author.Tests.{eq-eqb}

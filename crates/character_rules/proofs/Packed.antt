@@ -1,7 +1,7 @@
 -- A packed result, taken apart, is the result again; and what a run needs of it.
 -- Assumes nothing.
-use mathlib.Core.Path.{_≡_, refl, sym, _∙_, ap, ap₂, subst}
-use mathlib.Core.Bool.{Bool, true, false, cond}
+use mathlib.Core.Path.{_≡_, refl, sym, _∙_, ap, subst}
+use mathlib.Core.Bool.{Bool, true, false}
 use mathlib.Core.Option.{Option, none, some}
 use Prim.Native.Nat.{ℕ, _+_, _*_, _/_, _%_, _<_, _≤_}
 use native.Mathlib.Omega.{arith}
@@ -15,7 +15,7 @@ use Rattle.character_rules.specs.Disparity.{isPlus, isDisparity, dispari
 use Rattle.character_rules.specs.Blocks.{closing}
 use Rattle.character_rules.specs.Answers.{Reading, clean, wrongDisparity, invalid}
 use Rattle.character_rules.specs.Reading.{symbols, firstWith, result, reading}
-use Rattle.character_rules.specs.Results.{mark, symbolNumber, packed, packedSymbol, packedDisparity, unpacked, newDisparity, afterOne}
+use Rattle.character_rules.specs.Results.{mark, packed, packedSymbol, packedDisparity, unpacked, newDisparity, afterOne}
 use Rattle.character_rules.proofs.Disparities.{opposite, by-sign, closing-disparity}
 use Rattle.character_rules.proofs.Laws.{reading-done}
 use Rattle.character_rules.proofs.Found.{found}

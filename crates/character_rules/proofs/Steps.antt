@@ -1,8 +1,7 @@
 -- The line seen by a machine that keeps the balance and the last run of equal bits: what each character does to it.
 -- Assumes nothing.
-use mathlib.Core.Path.{_≡_, refl, sym, subst}
+use mathlib.Core.Path.{_≡_, sym, subst}
 use mathlib.Core.Bool.{Bool, true, false, cond, not, _&&_, _||_}
-use mathlib.Core.List.{List, [], _∷_}
 use Prim.Native.Nat.{ℕ, zero, suc, _<_}
 use lib.Dec.{T, eqb, leb, eqb→eq}
 use lib.IntN.{ℤ, pos, negsuc}

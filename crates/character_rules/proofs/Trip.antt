@@ -10,7 +10,7 @@ use lib.Dec.{T, eqb, ltb, ltb→lt}
 use lib.IntN.{ℤ, negℤ}
 use Rattle.refusal.specs.Order.{check, outcome}
 use Rattle.laws.specs.Lists.{allOf}
-use Rattle.laws.proofs.Bools.{and-left, and-right, T-true, true-T}
+use Rattle.laws.proofs.Bools.{and-left, and-right, T-true}
 use Rattle.symbol.specs.Symbols.{isSymbol, isWritable}
 use Rattle.symbol.specs.declared.Symbol.{Symbol}
 use Rattle.character_rules.specs.Disparity.{isDisparity}

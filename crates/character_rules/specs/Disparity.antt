@@ -1,6 +1,6 @@
 -- Document 01: disparity is −1 or +1, a signed number.
 use Prim.Native.Nat.{ℕ, _*_, _/_, _%_, _^_}
-use mathlib.Core.Bool.{Bool, true, false, cond, _||_}
+use mathlib.Core.Bool.{Bool, false, cond, _||_}
 use lib.Dec.{eqb}
 use lib.IntN.{ℤ, pos, negsuc}
 

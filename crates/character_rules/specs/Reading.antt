@@ -1,7 +1,7 @@
 -- What reading a character comes to. It goes by the writer's rules alone: a character is legal at a disparity if it is the
 -- character of some symbol there.
 use Prim.Native.Nat.{ℕ}
-use mathlib.Core.Bool.{Bool, cond, not, _||_}
+use mathlib.Core.Bool.{cond, not, _||_}
 use mathlib.Core.List.{List, [], _∷_, _++_, map}
 use mathlib.Core.Option.{Option, none, some}
 use lib.Dec.{eqb, ltb}

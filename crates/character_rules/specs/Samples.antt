@@ -1,8 +1,8 @@
 -- Worked examples beyond the bench's: refusals, readings of each kind, and a run.
 use mathlib.Core.Path.{_≡_}
-use mathlib.Core.List.{List, [], _∷_}
-use Prim.Native.Nat.{ℕ, _+_, _*_}
-use lib.IntN.{ℤ, pos, negsuc}
+use mathlib.Core.List.{[], _∷_}
+use Prim.Native.Nat.{_+_}
+use lib.IntN.{pos, negsuc}
 use Rattle.character_rules.specs.Answers.{notWritten, clean, wrongDisparity, invalid, notRead, runRead, runWritten, notRunWritten}
 use Rattle.character_rules.specs.Writing.{writing, runWriting, runStored}
 use Rattle.character_rules.specs.Reading.{reading}

@@ -1,10 +1,9 @@
 -- The two masks of unbalanced blocks: one test each, over all blocks.
 -- Assumes nothing.
-use mathlib.Core.Path.{_≡_, refl}
-use mathlib.Core.Bool.{Bool, true, false, cond, not}
+use mathlib.Core.Path.{_≡_}
+use mathlib.Core.Bool.{Bool}
 use Prim.Native.Nat.{ℕ, _/_, _%_, _^_, _<_}
-use lib.Dec.{T, eqb}
-use lib.ListN.{length}
+use lib.Dec.{eqb}
 use Rattle.laws.specs.Lists.{countFrom}
 use Rattle.laws.proofs.Table.{at}
 use Rattle.laws.proofs.Bools.{agree, agree-eq}

@@ -1,12 +1,12 @@
 -- One byte: the register's upper half moved down, and what the low byte alone leaves; by the table and without one.
 -- Assumes nothing.
-use mathlib.Core.Path.{_≡_, refl, sym, ap, ap₂, _∙_}
+use mathlib.Core.Path.{_≡_, sym, ap, ap₂, _∙_}
 use mathlib.Core.Bool.{Bool, xor}
-use mathlib.Core.List.{List, [], _∷_, map}
-use Prim.Native.Nat.{ℕ, _+_, _*_, _/_, _%_, _<_}
+use mathlib.Core.List.{[], _∷_}
+use Prim.Native.Nat.{ℕ, _*_, _/_, _%_, _<_}
 use native.Mathlib.Omega.{arith}
-use lib.Dec.{T, eqb, eqb→eq}
-use lib.ListN.{length, getD}
+use lib.Dec.{eqb, eqb→eq}
+use lib.ListN.{getD}
 use lib.Bits.{bitXor, xor-zero-l, xor-zero-r, xor-shr}
 use Rattle.laws.specs.Lists.{countFrom}
 use Rattle.laws.specs.Check.{overlay, checkBit, checkBits, lowestFirst, numberOf, bitsOf}

@@ -1,12 +1,12 @@
 -- What the next rooms need of CRC-16: how the register goes on, that it stays one, its check bytes, and the manual's remainder.
 -- Assumes nothing.
 use mathlib.Core.Path.{_≡_, refl, sym, ap, _∙_}
-use mathlib.Core.Bool.{Bool, xor}
+use mathlib.Core.Bool.{xor}
 use mathlib.Core.List.{List, [], _∷_, _++_}
 use Prim.Native.Nat.{ℕ, _+_, _-_, _/_, _%_, _<_}
 use native.Mathlib.Omega.{arith}
 use Rattle.laws.specs.Check.{coefficients, overlay, checkBit, checkBits, lowestFirst, numberOf, bitsOf, bytesOf}
-use Rattle.laws.proofs.Shifts.{shift, shifts, checkByte, checkFrom, checkBytes, residue, from-append, from-lt, remainder}
+use Rattle.laws.proofs.Shifts.{shift, shifts, checkFrom, checkBytes, residue, from-append, from-lt, remainder}
 use Rattle.laws.proofs.Check.{number-bytes, number-lowest, bytes-placed}
 use Rattle.crc.specs.Crc16.{polynomial, registerOf, crcStart, crcFrom, crcByte, checkBytesOf, crcOf}
 

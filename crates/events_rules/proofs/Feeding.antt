@@ -11,7 +11,7 @@ use lib.IntN.{ℤ}
 use lib.ListN.{length, getD, set, length-set}
 use Rattle.symbol.specs.Symbols.{dataSymbol}
 use Rattle.character_rules.specs.Disparity.{disparityOf}
-use Rattle.character_rules.specs.Answers.{Reading, clean}
+use Rattle.character_rules.specs.Answers.{clean}
 use Rattle.character_rules.specs.Reading.{reading}
 use Rattle.character_rules.specs.Results.{packed, packedDisparity, unpacked}
 use Rattle.character_rules.proofs.Packed.{unpacked-data, unpacked-reading}

@@ -8,7 +8,7 @@ use lib.Dec.{eqb}
 use Rattle.packet_rules.specs.declared.Event.{Event}
 use Rattle.packet_rules.specs.declared.Event.the-variants.{Nothing, StartData, StartPriority, Byte, End, Lmp, Violation}
 use Rattle.packet_rules.specs.Answers.{eventSays}
-use Rattle.events_rules.specs.Numbers.{markNumber, packedEvent}
+use Rattle.events_rules.specs.Numbers.{packedEvent}
 
 -- an event, not a refusal, whose numbers are bytes
 pub data Told : Event → Type 0 where

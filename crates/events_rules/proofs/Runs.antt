@@ -1,18 +1,18 @@
 -- A capture read a part at a time. What is done and what remains always make the whole: the law that a loop over the characters goes by.
 -- Assumes nothing.
 use mathlib.Core.Path.{_≡_, refl, sym, _∙_, ap, ap₂, subst}
-use mathlib.Core.Bool.{Bool, true, false}
-use mathlib.Core.List.{List, [], _∷_, _++_, append-assoc, append-nil, map}
-use Prim.Native.Nat.{ℕ, zero, suc, _+_, _≤_, _<_}
+use mathlib.Core.Bool.{Bool, true}
+use mathlib.Core.List.{List, [], _∷_, _++_, append-assoc}
+use Prim.Native.Nat.{ℕ, suc, _+_, _≤_, _<_}
 use native.Mathlib.Numerals.{add-one}
 use native.Mathlib.Omega.{arith}
-use lib.Dec.{T, leb}
+use lib.Dec.{leb}
 use lib.IntN.{ℤ}
 use lib.ListN.{length, take, drop, getD, set, length-set, take-append-drop}
 use lib.Seq.{drop-cons, drop-length, take-suc-set, drop-set-lt}
-use Rattle.character_rules.specs.Disparity.{isDisparity, disparityOf}
+use Rattle.character_rules.specs.Disparity.{disparityOf}
 use Rattle.character_rules.specs.Reading.{reading}
-use Rattle.character_rules.specs.Results.{packed, afterOne, runClosing, readingsOf}
+use Rattle.character_rules.specs.Results.{packed, afterOne, runClosing}
 use Rattle.character_rules.proofs.RunLaws.{next-read}
 use Rattle.packet_rules.specs.declared.Reader.{Reader}
 use Rattle.packet_rules.specs.State.{wellFormed}

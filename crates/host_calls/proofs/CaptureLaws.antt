@@ -6,7 +6,6 @@ use mathlib.Core.List.{List}
 use lib.ListN.{length}
 use Rattle.capture_rules.specs.Calls.{answered, refused, countSays, characterSays, packSays, packLeaves, unpackSays, unpackLeaves}
 use Rattle.capture_rules.proofs.Laws.{pack-leaves, unpack-leaves}
-use Rattle.host_rules.specs.Numbers.{Called, called}
 use Rattle.host_rules.proofs.Numbers.{done-called}
 use Rattle.host_calls.specs.CaptureCalls.{counts, finds, Packs, packs, Unpacks, unpacks}
 use Rattle.host_calls.proofs.Same.{same-called}

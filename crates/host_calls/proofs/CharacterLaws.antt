@@ -7,12 +7,12 @@ use native.Mathlib.Omega.{arith}
 use lib.IntN.{ℤ}
 use lib.ListN.{length}
 use Rattle.symbol.specs.declared.Symbol.{Symbol}
-use Rattle.character_rules.specs.Answers.{Writing, written, notWritten, Reading, clean, wrongDisparity, invalid, notRead, RunReading, runRead, notRunRead}
+use Rattle.character_rules.specs.Answers.{written, notWritten, clean, wrongDisparity, invalid, notRead, runRead, notRunRead}
 use Rattle.character_rules.specs.Reading.{reading}
 use Rattle.character_rules.specs.Results.{runReading, runOutput}
 use Rattle.character_rules.proofs.Laws.{reading-refused}
 use Rattle.character_rules.proofs.RunLaws.{run-leaves}
-use Rattle.host_rules.specs.Numbers.{markNumber, Called, called}
+use Rattle.host_rules.specs.Numbers.{markNumber}
 use Rattle.host_rules.specs.Characters.{writingNumbers}
 use Rattle.host_rules.proofs.Numbers.{done-called, refused-called}
 use Rattle.host_calls.specs.CharacterCalls.{Writes, writes, Reads, reads, ReadsRun, readsRun}

@@ -1,8 +1,8 @@
 -- Reading a capture into events by what its answer says: a refusal leaves all as it stood.
 -- Assumes nothing.
 use Prim.Native.Nat.{ℕ}
-use mathlib.Core.Path.{_≡_, refl, sym, ap, subst, _∙_}
-use mathlib.Core.Bool.{Bool, true, false, not}
+use mathlib.Core.Path.{_≡_, refl, sym, ap, _∙_}
+use mathlib.Core.Bool.{true, false}
 use mathlib.Core.List.{List}
 use lib.Dec.{eqb}
 use lib.IntN.{ℤ}
@@ -15,7 +15,6 @@ use Rattle.refusal.proofs.Outcomes.{number-is}
 use Rattle.capture_rules.specs.Capture.{legal}
 use Rattle.events_rules.specs.declared.CaptureRead.{CaptureRead}
 use Rattle.events_rules.specs.Events.{notReadCapture, captureChecks, captureRead, eventsLeft}
-use Rattle.host_rules.specs.Numbers.{Called}
 use Rattle.host_rules.proofs.Numbers.{refused-called, done-called}
 use Rattle.host_rules.specs.ReaderBytes.{readerBytes, readerIn, isReader}
 use Rattle.host_calls.specs.EventCalls.{bytesChecks, captureNumbers, eventsNumbers, ReadsCapture, readsCapture}

@@ -1,17 +1,15 @@
 -- Each call of the packet reader and writer by what its answer says: a refusal leaves all as it stood.
 -- Assumes nothing.
 use Prim.Native.Nat.{ℕ}
-use mathlib.Core.Path.{_≡_, refl, sym, ap, _∙_}
+use mathlib.Core.Path.{_≡_, refl}
 use mathlib.Core.List.{List}
 use lib.IntN.{ℤ}
-use lib.ListN.{length}
 use Rattle.packet_rules.specs.declared.Reader.{Reader}
 use Rattle.packet_rules.specs.Answers.{Answer, made, notMade}
 use Rattle.packet_rules.specs.State.{freshReader}
 use Rattle.packet_rules.specs.Packets.{Packet, wrote, notWrote, packetWriting, packetOutput}
 use Rattle.packet_rules.proofs.Packets.{packet-leaves}
 use Rattle.host_rules.specs.declared.Told.{Told}
-use Rattle.host_rules.specs.Numbers.{Called, called}
 use Rattle.host_rules.specs.ReaderBytes.{readerBytes}
 use Rattle.host_rules.specs.Stepping.{stepNumbers, toldOf}
 use Rattle.host_rules.proofs.Numbers.{done-called, refused-called}

@@ -1,7 +1,7 @@
 -- Each call of the receiver by its answer: a refusal leaves all as it stood, else what the answer says.
 -- Assumes nothing.
 use Prim.Native.Nat.{ℕ}
-use mathlib.Core.Path.{_≡_, refl, sym, ap, _∙_}
+use mathlib.Core.Path.{_≡_, sym, ap, _∙_}
 use mathlib.Core.List.{List}
 use lib.ListN.{length}
 use Rattle.retry_rules.specs.declared.Arrived.{Arrived}
@@ -9,7 +9,7 @@ use Rattle.retry_rules.specs.declared.Begun.{Begun}
 use Rattle.retry_rules.specs.Fresh.{freshReceiverOf}
 use Rattle.retry_rules.specs.Arrival.{arrivalOf, arrivalOutput, damagedArrivalOf}
 use Rattle.retry_rules.proofs.Refusals.{arrival-leaves}
-use Rattle.host_rules.specs.Numbers.{markOf, markNumber, Called, called}
+use Rattle.host_rules.specs.Numbers.{markOf, markNumber}
 use Rattle.host_rules.proofs.Numbers.{refused-called, done-called}
 use Rattle.host_retry_rules.specs.ReceiverBytes.{receiverIn, receiverBytes}
 use Rattle.host_calls.specs.ReceiverCalls.{beginsReceiver, Arrives, arrives, ArrivesDamaged, arrivesDamaged}

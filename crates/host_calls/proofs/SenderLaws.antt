@@ -1,7 +1,7 @@
 -- Each call of the sender by its answer: a refusal leaves all as it stood, else what the answer says.
 -- Assumes nothing.
 use Prim.Native.Nat.{ℕ}
-use mathlib.Core.Path.{_≡_, refl, sym, ap, _∙_}
+use mathlib.Core.Path.{_≡_, sym, ap, _∙_}
 use mathlib.Core.List.{List}
 use lib.ListN.{length}
 use Rattle.retry_rules.specs.declared.Answered.{Answered}
@@ -14,7 +14,7 @@ use Rattle.retry_rules.specs.Send.{sendOf, sendOutput}
 use Rattle.retry_rules.specs.Reply.{replyOf, damagedReplyOf}
 use Rattle.retry_rules.specs.Tick.{tickOf}
 use Rattle.retry_rules.proofs.Refusals.{offer-leaves, send-leaves}
-use Rattle.host_rules.specs.Numbers.{markOf, markNumber, Called, called}
+use Rattle.host_rules.specs.Numbers.{markOf, markNumber}
 use Rattle.host_rules.proofs.Numbers.{refused-called, done-called}
 use Rattle.host_retry_rules.specs.SenderBytes.{senderIn, senderBytes}
 use Rattle.host_calls.specs.SenderCalls.{beginsSender, resets, hears, hearsDamaged, Ticks, ticks, Offers, offers, Sends, sends}

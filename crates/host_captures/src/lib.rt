@@ -1,7 +1,7 @@
 // What C calls of captures: whether one is legal, how many characters it holds, the character at a place, packing and unpacking.
 use capture_rules::Answer;
 ghost use mathlib.Core.Path.{_≡_};
-ghost use Rattle.host_calls.specs.CaptureCalls.{counts, finds, Packs, packs, Unpacks, unpacks};
+ghost use Rattle.host_calls.specs.CaptureCalls.{counts, finds, packs, unpacks};
 
 // How many characters a capture holds.
 #[no_mangle]

@@ -5,7 +5,7 @@ use character_rules::RunRead;
 use host_marks::mark_number;
 use symbol::Symbol;
 ghost use mathlib.Core.Path.{_≡_};
-ghost use Rattle.host_calls.specs.CharacterCalls.{Writes, writes, Reads, reads, ReadsRun, readsRun};
+ghost use Rattle.host_calls.specs.CharacterCalls.{writes, Reads, reads, readsRun};
 
 // A symbol written as a character at a disparity, which is turned to the closing one.
 #[no_mangle]

@@ -1,13 +1,12 @@
 -- Each 38 bytes stand for a sender whose bytes they are, and each 4 for a receiver: so a refusal that hands back its state leaves its bytes.
 -- Assumes nothing.
-use Prim.Native.Nat.{ℕ, zero, suc, _+_, _*_, _/_, _%_, _^_, _<_}
-use mathlib.Core.Path.{_≡_, refl, sym, ap, _∙_}
-use mathlib.Core.Bool.{Bool, true, false}
+use Prim.Native.Nat.{ℕ, zero, suc, _+_, _*_, _/_, _%_, _<_}
+use mathlib.Core.Path.{_≡_, refl, ap, _∙_}
 use mathlib.Core.List.{List, [], _∷_}
 use lib.Dec.{eqb}
 use native.Mathlib.Omega.{arith}
 use Rattle.host_rules.specs.Numbers.{markNumber}
-use Rattle.host_retry_rules.specs.SenderBytes.{two, marksNumber, marksFrom, maskOf, marksOf, senderBytes, countersIn, lengthsIn, channelsIn, senderIn}
+use Rattle.host_retry_rules.specs.SenderBytes.{two, maskOf, marksOf, senderBytes, countersIn, lengthsIn, channelsIn, senderIn}
 use Rattle.host_retry_rules.specs.ReceiverBytes.{receiverBytes, receiverIn}
 
 also : {x y : ℕ} {xs ys : List ℕ} → x ≡ y → xs ≡ ys → x ∷ xs ≡ y ∷ ys

@@ -8,7 +8,6 @@ use mathlib.Core.List.{List, [], _∷_}
 use lib.Dec.{eqb}
 use lib.ListN.{getD}
 use Rattle.retry_rules.specs.declared.Counters.{Counters}
-use Rattle.retry_rules.specs.declared.Slots.{Slots}
 use Rattle.retry_rules.specs.declared.Sender.{Sender}
 use Rattle.host_rules.specs.Numbers.{markNumber}
 

@@ -4,7 +4,7 @@ use Prim.Native.Nat.{ℕ}
 use mathlib.Core.Path.{_≡_, ap}
 use mathlib.Core.Bool.{Bool, cond}
 use borrow.Author.Tests.{eq-eqb, ne-eqb}
-use Rattle.host_rules.specs.Numbers.{stands, Called, called}
+use Rattle.host_rules.specs.Numbers.{stands, called}
 
 module _ {A : Type 0} (n : ℕ) (old new : A) where
   -- a refusal leaves it as it stood

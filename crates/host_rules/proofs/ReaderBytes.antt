@@ -1,15 +1,14 @@
 -- A reader's state is what its bytes stand for, and its bytes are an encoding.
 -- Assumes nothing.
-use Prim.Native.Nat.{ℕ, _+_, _*_, _/_, _%_}
+use Prim.Native.Nat.{ℕ, _/_, _%_}
 use mathlib.Core.Path.{_≡_, refl}
-use mathlib.Core.Bool.{Bool, true, false}
+use mathlib.Core.Bool.{true, false}
 use native.Mathlib.Omega.{arith}
 use borrow.Author.Tests.{eq-eqb}
 use Rattle.packet_rules.specs.declared.DataPacket.{DataPacket}
 use Rattle.packet_rules.specs.declared.DataPacket.the-variants.{NoData, InData}
 use Rattle.packet_rules.specs.declared.PriorityPacket.{PriorityPacket}
 use Rattle.packet_rules.specs.declared.PriorityPacket.the-variants.{NoPriority, InPriority}
-use Rattle.packet_rules.specs.declared.Due.{Due}
 use Rattle.packet_rules.specs.declared.Due.the-variants.{Channel, Opening, Closing, FirstCrc, SecondCrc, LmpType, LmpNumber, LmpCheck}
 use Rattle.packet_rules.specs.declared.Phase.{Phase}
 use Rattle.packet_rules.specs.declared.Phase.the-variants.{Free, Next, Idles, Dropping}

@@ -1,11 +1,10 @@
 -- What a step in numbers and bytes comes to, by the tests of its numbers.
 -- Assumes nothing.
 use Prim.Native.Nat.{ℕ, _≤_, _<_}
-use mathlib.Core.Path.{_≡_, refl, sym, subst}
-use mathlib.Core.Bool.{Bool, true, false, or-true}
+use mathlib.Core.Path.{_≡_}
+use mathlib.Core.Bool.{true, false, or-true}
 use mathlib.Core.List.{List}
 use lib.IntN.{negsuc}
-use lib.Dec.{eqb}
 use borrow.Author.Tests.{lt-ltb, le-ltb, ne-eqb}
 use Rattle.character_rules.specs.Answers.{invalid}
 use Rattle.packet_rules.specs.Step.{refusedStep, stepOf}

@@ -4,7 +4,7 @@ use mathlib.Core.Bool.{cond, not, _&&_}
 use mathlib.Core.List.{List, [], _∷_}
 use mathlib.Core.Option.{Option, none, some}
 use lib.Dec.{eqb, ltb}
-use lib.IntN.{ℤ, negsuc}
+use lib.IntN.{negsuc}
 use Rattle.refusal.specs.Order.{Check, check, outcome}
 use Rattle.character_rules.specs.Answers.{Reading, clean, wrongDisparity, invalid}
 use Rattle.packet_rules.specs.Answers.{Said, Answer}

@@ -1,7 +1,7 @@
 // What C calls of the sending end of the retry, its state in 38 lent bytes.
 use host_marks::mark_number;
 ghost use mathlib.Core.Path.{_≡_};
-ghost use Rattle.host_calls.specs.SenderCalls.{beginsSender, resets, hears, hearsDamaged, Ticks, ticks};
+ghost use Rattle.host_calls.specs.SenderCalls.{beginsSender, resets, hears, hearsDamaged, ticks};
 
 // A fresh sender with T and S.
 #[no_mangle]

@@ -2,10 +2,7 @@
 -- Assumes nothing.
 use mathlib.Core.Path.{_≡_, refl, sym, subst}
 use mathlib.Core.Bool.{Bool, true, false, cond, not, _&&_, _||_}
-use mathlib.Core.List.{List, [], _∷_}
-use Prim.Native.Nat.{ℕ}
 use lib.Dec.{T}
-use Rattle.laws.specs.Lists.{allOf}
 
 pub and-left : (a b : Bool) → T (a && b) → T a
 and-left true b t = tt

@@ -3,12 +3,11 @@
 use mathlib.Core.Path.{_≡_, refl, sym, ap, ap₂, _∙_}
 use mathlib.Core.Bool.{Bool, true, false, cond, not, xor}
 use mathlib.Core.List.{List, [], _∷_, _++_, map}
-use Prim.Native.Nat.{ℕ, zero, suc, _+_, _-_, _*_, _/_, _%_, _^_, _≤_, _<_}
+use Prim.Native.Nat.{ℕ, zero, suc, _+_, _-_, _*_, _/_, _%_, _^_, _<_}
 use native.Mathlib.Nat.{mul-zero, mul-one, zero-add, suc-add, mod-lt, pow-suc}
 use native.Mathlib.Numerals.{add-one}
 use native.Mathlib.Omega.{arith}
 use lib.Dec.{eqb}
-use lib.ListN.{take, drop}
 use lib.Pow.{mod-pow-add, pow-pos, shr-shr}
 use lib.Bits.{bitXor, xor-zero-l, xor-zero-r, xor-comm, xor-block, xor-shifted}
 use Rattle.laws.specs.Check.{overlay, highest, lower, checkBit, checkBits, lowestFirst, numberOf, bitsOf, bytesOf}

@@ -2,13 +2,12 @@
 -- the other bits moved down and the low k bits' own steps. A message and its check bytes leave the same remainder, whatever the message.
 -- Assumes nothing.
 use mathlib.Core.Path.{_≡_, refl, sym, ap, ap₂, _∙_}
-use mathlib.Core.Bool.{Bool}
 use mathlib.Core.List.{List, [], _∷_, _++_}
 use Prim.Native.Nat.{ℕ, zero, suc, _+_, _-_, _*_, _/_, _%_, _^_, _≤_, _<_}
 use native.Mathlib.Nat.{mod-lt, mul-zero, mul-one, pow-suc, zero-add}
 use native.Mathlib.Omega.{arith}
 use lib.Dec.{eqb, eqb→eq}
-use lib.ListN.{length, replicate}
+use lib.ListN.{replicate}
 use lib.Pow.{pow-pos, split}
 use lib.Bits.{bitXor, differ, xor-zero-r, xor-comm, xor-self, xor-shifted, xor-block, xor-lt, shifted-half, shifted-even}
 use Rattle.laws.proofs.Table.{at}

@@ -1,8 +1,8 @@
 -- A check of any width (a CRC): bits go through a register, one after the other. The register and the polynomial are the lists of their
 -- coefficients, the highest first; the polynomial's own highest, which is always 1, is left out, so both are as long as the check is wide.
 use Prim.Native.Nat.{ℕ, zero, suc, _+_, _*_, _/_, _%_, _^_}
-use mathlib.Core.Bool.{Bool, true, false, cond, not, xor}
-use mathlib.Core.List.{List, [], _∷_, _++_, map}
+use mathlib.Core.Bool.{Bool, false, cond, xor}
+use mathlib.Core.List.{List, [], _∷_, _++_}
 use lib.Dec.{eqb}
 use lib.ListN.{take, drop}
 

@@ -8,7 +8,7 @@ use native.Mathlib.Nat.{add-assoc, add-zero}
 use native.Mathlib.Numerals.{add-one}
 use native.Mathlib.Omega.{arith}
 use lib.Dec.{leb, leb→le}
-use lib.ListN.{length, drop, take, getD, length-append}
+use lib.ListN.{length, drop, take, getD}
 use lib.Seq.{take-suc, length-take-le}
 use Rattle.laws.proofs.Bools.{true-T, and-left, and-right}
 use Rattle.character_rules.specs.Answers.{Reading, readingSays}

@@ -3,7 +3,6 @@ use listing_rules::Reached;
 use packet_rules::Event;
 use packet_rules::Reader;
 ghost use mathlib.Core.Path.{_≡_};
-ghost use mathlib.Core.Bool.{true};
 ghost use mathlib.Core.List.{[], _∷_};
 ghost use Prim.Native.Nat.{_+_, _≤_, _<_};
 ghost use Rattle.packet_rules.specs.Answers.{eventSays};

@@ -18,7 +18,7 @@ use Rattle.character_rules.specs.Disparity.{isDisparity}
 use Rattle.character_rules.specs.declared.RunRead.{RunRead}
 use Rattle.character_rules.specs.declared.RunRead.the-variants.{Read, Refused as NotRun}
 use Rattle.character_rules.specs.Answers.{Reading, RunReading, runRead, runSays}
-use Rattle.character_rules.specs.Results.{packed, unpacked, afterOne, inRange, runResults, runClosing, runReading, runOutput, readingsOf}
+use Rattle.character_rules.specs.Results.{unpacked, afterOne, inRange, runResults, runClosing, runReading, runOutput, readingsOf}
 use Rattle.character_rules.proofs.Packed.{unpacked-reading, after-disparity}
 use Rattle.character_rules.proofs.RunLaws.{run-done}
 use Rattle.capture_rules.specs.Capture.{characterCount, charactersOf, legal}

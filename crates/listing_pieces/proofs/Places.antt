@@ -13,7 +13,7 @@ use Rattle.laws.proofs.Groups.{getD-below}
 use Rattle.capture_rules.specs.declared.Answer.{Answer}
 use Rattle.capture_rules.specs.declared.Answer.the-variants.{Number, Refused}
 use Rattle.capture_rules.specs.Capture.{charactersOf, characterCount, legal}
-use Rattle.capture_rules.specs.Calls.{Said, says, answered, characterSays}
+use Rattle.capture_rules.specs.Calls.{Said, says, characterSays}
 use Rattle.capture_rules.proofs.Laws.{character-found}
 use Rattle.capture_rules.proofs.Packing.{characters-below, legal-size}
 

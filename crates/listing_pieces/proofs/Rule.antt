@@ -1,8 +1,8 @@
 -- The rule of a listing that goes on, test by test.
 -- Assumes nothing.
-use mathlib.Core.Path.{_≡_, refl, sym, ap, _∙_}
+use mathlib.Core.Path.{_≡_, sym, ap, _∙_}
 use mathlib.Core.Bool.{Bool, true, false, _&&_}
-use Prim.Native.Nat.{ℕ, _<_, _≤_}
+use Prim.Native.Nat.{_<_, _≤_}
 use borrow.Author.Tests.{lt-leb, le-leb}
 use Rattle.character_rules.specs.Disparity.{isDisparity}
 use Rattle.packet_rules.specs.State.{wellFormed}

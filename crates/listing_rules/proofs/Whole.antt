@@ -1,7 +1,7 @@
 -- The pieces, one after another from a fresh listing, are exactly the listing, and they end.
 -- Assumes nothing.
 use mathlib.Core.Path.{_≡_, refl, sym, ap, ap₂, _∙_, subst}
-use mathlib.Core.Bool.{true, false, not, _&&_}
+use mathlib.Core.Bool.{true, false, _&&_}
 use mathlib.Core.List.{List, [], _∷_, _++_, append-assoc, append-nil}
 use Prim.Native.Nat.{ℕ, zero, suc, _+_, _-_, _≤_, _<_}
 use native.Mathlib.Nat.{add-assoc, add-zero}
@@ -23,7 +23,7 @@ use Rattle.capture_rules.proofs.Packing.{characters-length, characters-below}
 use Rattle.packet_rules.specs.declared.Reader.{Reader}
 use Rattle.packet_rules.specs.Answers.{Said as EventSaid}
 use Rattle.segment_size.specs.Sizes.{sizeAllowed}
-use Rattle.packet_rules.specs.State.{wellFormed, fresh}
+use Rattle.packet_rules.specs.State.{wellFormed}
 use Rattle.packet_rules.specs.Step.{stepOf}
 use Rattle.packet_rules.specs.Line.{saidOf, afterOf}
 use Rattle.packet_rules.proofs.Kept.{kept, fresh-kept}

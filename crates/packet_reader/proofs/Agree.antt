@@ -1,7 +1,7 @@
 -- The code's way through a step comes to what the rules say, for every state and every character result.
 -- Assumes nothing.
 use mathlib.Core.Path.{_≡_, refl, sym, ap, _∙_}
-use mathlib.Core.Bool.{Bool, true, false, not}
+use mathlib.Core.Bool.{Bool, true, false}
 use Prim.Native.Nat.{ℕ, _-_}
 use borrow.Author.Tests.{eqb-true, ltb-true}
 use lib.Bits.{bitXor}

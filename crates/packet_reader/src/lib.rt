@@ -13,7 +13,7 @@ use symbol::Symbol;
 ghost use mathlib.Core.Path.{_≡_};
 ghost use Rattle.character_rules.specs.Answers.{readingSays};
 ghost use Rattle.packet_rules.specs.Answers.{stepSays, freshSays};
-ghost use Rattle.packet_rules.specs.State.{wellFormed, freshReader};
+ghost use Rattle.packet_rules.specs.State.{freshReader};
 ghost use Rattle.packet_rules.specs.Step.{stepOf};
 ghost use Rattle.packet_reader.specs.Classes.{classOf, cleanOf, spoiledOf, advanceOf, refusedTo};
 

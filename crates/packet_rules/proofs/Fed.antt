@@ -1,13 +1,13 @@
 -- A packet after a run of its own bytes, of either kind: its opening byte stays, it has a byte, and its register is the CRC of them.
 -- Assumes nothing.
 use mathlib.Core.Path.{_≡_, refl, sym, ap, _∙_}
-use mathlib.Core.Bool.{Bool, true, false}
+use mathlib.Core.Bool.{true, false}
 use mathlib.Core.List.{List, [], _∷_}
-use Prim.Native.Nat.{ℕ, zero, suc, _+_, _≤_, _<_}
+use Prim.Native.Nat.{ℕ, suc, _+_, _≤_, _<_}
 use native.Mathlib.Omega.{arith}
 use borrow.Author.Tests.{lt-ltb, lt-leb}
 use lib.ListN.{length}
-use Rattle.crc.specs.Crc16.{crcStart, crcByte, crcFrom}
+use Rattle.crc.specs.Crc16.{crcByte, crcFrom}
 use Rattle.crc.proofs.Laws.{crc-cons, crc-none, crc-lt}
 use Rattle.packet_rules.specs.declared.DataPacket.{DataPacket}
 use Rattle.packet_rules.specs.declared.DataPacket.the-variants.{NoData, InData}

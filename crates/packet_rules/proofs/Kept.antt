@@ -1,17 +1,15 @@
 -- Every state that the step hands back keeps the rule if the given one did, and so does a fresh one.
 -- Assumes nothing.
-use mathlib.Core.Path.{_≡_, refl, sym, ap, _∙_}
-use mathlib.Core.Bool.{Bool, true, false, cond, not, _&&_, _||_}
-use mathlib.Core.List.{List, [], _∷_}
-use mathlib.Core.Option.{Option, none, some}
-use Prim.Native.Nat.{ℕ, zero, suc, _+_, _-_, _≤_, _<_}
+use mathlib.Core.Path.{_≡_, refl}
+use mathlib.Core.Bool.{true, false, _&&_}
+use mathlib.Core.List.{_∷_}
+use Prim.Native.Nat.{ℕ, _+_, _-_}
 use native.Mathlib.Omega.{arith}
 use borrow.Author.Tests.{lt-ltb, le-leb, leb-true, leb-false, eq-eqb, eqb-true, not-false}
 use lib.Dec.{leb, ltb, eqb}
 use Rattle.laws.proofs.Cases.{first-true, second-true}
 use Rattle.character_rules.specs.Answers.{Reading}
 use Rattle.crc.specs.Crc16.{crcStart, crcByte}
-use Rattle.packet_rules.specs.declared.Opener.{Opener}
 use Rattle.packet_rules.specs.declared.Opener.the-variants.{Sdp, Spp, Slp}
 use Rattle.packet_rules.specs.declared.Kind.{Kind}
 use Rattle.packet_rules.specs.declared.Kind.the-variants.{Data, Idl, Com, Opens, Closes, NoPlace, Unsupported}
@@ -27,8 +25,8 @@ use Rattle.packet_rules.specs.declared.Reader.{Reader}
 use Rattle.packet_rules.specs.Answers.{Said, Answer, nothing, violated, ended}
 use Rattle.packet_rules.specs.State.{noPriority, outside, hasByte, dataRule, priorityRule, dueRule, phaseRule, wellFormed, fresh}
 use Rattle.segment_size.specs.Sizes.{sizeAllowed}
-use Rattle.packet_rules.specs.Violations.{mayNotStand, isFull, conditions, violationOf}
-use Rattle.packet_rules.specs.Step.{answer, dueAfter, userByte, freeMove, closesOwn, dueMove, byteOf, idlesAfter, move, broken, awakens, dropped, judged, kindIn, readOf, stepChecks, refusedStep, stepOf}
+use Rattle.packet_rules.specs.Violations.{isFull, conditions, violationOf}
+use Rattle.packet_rules.specs.Step.{answer, userByte, freeMove, closesOwn, dueMove, byteOf, idlesAfter, move, broken, awakens, dropped, judged, kindIn, readOf, stepChecks, refusedStep, stepOf}
 use Rattle.packet_rules.proofs.Choice.{either, by-outcome}
 use Rattle.packet_rules.proofs.Lowest.{NoneOf, lowest-none}
 

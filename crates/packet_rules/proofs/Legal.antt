@@ -1,40 +1,38 @@
 -- On every legal line the reader says exactly what the description says, and is fresh again after it.
 -- Assumes nothing.
 use mathlib.Core.Path.{_≡_, refl, sym, ap, ap₂, subst, _∙_}
-use mathlib.Core.Bool.{Bool, true, false, cond, not, _&&_, _||_}
+use mathlib.Core.Bool.{Bool, true, false, cond, _&&_}
 use mathlib.Core.List.{List, [], _∷_, _++_, map}
-use mathlib.Core.Option.{Option, none, some}
-use Prim.Native.Nat.{ℕ, zero, suc, _+_, _-_, _*_, _/_, _%_, _≤_, _<_}
+use mathlib.Core.Option.{none, some}
+use Prim.Native.Nat.{ℕ, _+_, _-_, _*_, _/_, _%_, _≤_, _<_}
 use native.Mathlib.Omega.{arith}
-use borrow.Author.Tests.{lt-ltb, ltb-true, eq-eqb, ne-eqb, eqb-true, eqb-false}
+use borrow.Author.Tests.{lt-ltb, ltb-true, eq-eqb, eqb-true, eqb-false}
 use lib.Bits.{bitXor}
 use lib.Dec.{eqb, ltb}
-use lib.IntN.{ℤ, pos}
 use lib.ListN.{length, getD}
-use Rattle.symbol.specs.Symbols.{dataSymbol, controlSymbol}
+use Rattle.symbol.specs.Symbols.{dataSymbol}
 use Rattle.symbol.specs.declared.Symbol.{Symbol}
 use Rattle.laws.proofs.Cases.{first-true, second-true}
-use Rattle.character_rules.specs.Answers.{Reading, clean}
+use Rattle.character_rules.specs.Answers.{Reading}
 use Rattle.crc.specs.Crc16.{crcStart, crcFrom, checkBytesOf, crcOf}
 use Rattle.crc.proofs.Laws.{start-value, check-bytes}
 use Rattle.packet_rules.specs.declared.DataPacket.{DataPacket}
 use Rattle.packet_rules.specs.declared.DataPacket.the-variants.{NoData, InData}
 use Rattle.packet_rules.specs.declared.PriorityPacket.{PriorityPacket}
 use Rattle.packet_rules.specs.declared.PriorityPacket.the-variants.{NoPriority, InPriority}
-use Rattle.packet_rules.specs.declared.Due.{Due}
 use Rattle.packet_rules.specs.declared.Due.the-variants.{Channel, Opening, Closing, FirstCrc, SecondCrc, LmpType, LmpNumber, LmpCheck}
 use Rattle.packet_rules.specs.declared.Phase.{Phase}
-use Rattle.packet_rules.specs.declared.Phase.the-variants.{Free, Next, Idles, Dropping}
+use Rattle.packet_rules.specs.declared.Phase.the-variants.{Free, Next, Idles}
 use Rattle.packet_rules.specs.declared.Reader.{Reader}
-use Rattle.packet_rules.specs.Answers.{Said, Answer, nothing, started, gaveByte, ended, replied}
+use Rattle.packet_rules.specs.Answers.{Said, nothing, started, gaveByte, ended, replied}
 use Rattle.packet_rules.specs.State.{noPriority, outside, hasByte, openingByte, registerIn, fedPriority, fedData, wellFormed, fresh}
 use Rattle.segment_size.specs.Sizes.{sizeAllowed}
-use Rattle.packet_rules.specs.Step.{closesOwn, lmpSaid, stepOf}
+use Rattle.packet_rules.specs.Step.{closesOwn, lmpSaid}
 use Rattle.packet_rules.specs.Line.{COM, IDL, SPP, SDP, SLP, endSymbol, isReply, Fill, idl, comIdles, reply, other, Inside, end, byte, among, closing, closingSaid, PriorityLine, priority, Within, fill, nested, DataLine, packet, Outside, zeros, within, data-packet, LegalLine, empty, then, saidOf, afterOf, ReadClean}
 use Rattle.packet_rules.proofs.Kept.{fresh-kept}
 use Rattle.packet_rules.proofs.Runs.{gives, Runs, stop, step, runs-append, runs-kept, go, runs-said}
 use Rattle.packet_rules.proofs.Steps.{st, on-idl, on-com, on-idles, on-last-idle, on-slp, on-spp, on-sdp, on-byte, on-end, on-channel, on-opening, on-closing, on-first, on-second, on-lmp-type, on-lmp-number, on-lmp-check, on-zero}
-use Rattle.packet_rules.proofs.Fed.{priorityAfter, dataAfter, fed-priority, fed-outside, Room, room-full, room-less, after-priority, after-outside, after-opening, after-register, after-has}
+use Rattle.packet_rules.proofs.Fed.{priorityAfter, dataAfter, fed-priority, fed-outside, Room, room-full, room-less, after-outside, after-opening, after-register, after-has}
 
 -- ---- LMPs
 

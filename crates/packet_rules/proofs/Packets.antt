@@ -1,14 +1,13 @@
 -- A packet within the rules: its symbols are a legal line and can all be written, and no refusal applies.
 -- Assumes nothing.
 use mathlib.Core.Path.{_≡_, refl, sym, ap, subst, _∙_}
-use mathlib.Core.Bool.{Bool, true, false, cond, not, _&&_, _||_}
+use mathlib.Core.Bool.{Bool, true, false, _&&_}
 use mathlib.Core.List.{List, [], _∷_, _++_, map}
-use mathlib.Core.Option.{Option, none, some}
 use Prim.Native.Nat.{ℕ, suc, _+_, _-_, _*_, _/_, _%_, _≤_, _<_}
 use native.Mathlib.Omega.{arith}
 use borrow.Author.Tests.{le-ltb, ne-eqb}
 use lib.Bits.{bitXor, xor-lt}
-use lib.Dec.{T, eqb, ltb, lt→ltb}
+use lib.Dec.{T, ltb, lt→ltb}
 use lib.IntN.{ℤ}
 use lib.ListN.{length, length-append}
 use Rattle.laws.specs.Lists.{allOf}
@@ -16,17 +15,17 @@ use Rattle.laws.proofs.Cases.{some-is-not-none}
 use Rattle.laws.proofs.Bools.{and-left, and-right, and-both, T-true}
 use Rattle.refusal.specs.Order.{refusalOf}
 use Rattle.refusal.proofs.Laws.{refused-leaves}
-use Rattle.symbol.specs.Symbols.{dataSymbol, controlSymbol, isTwelve}
+use Rattle.symbol.specs.Symbols.{dataSymbol, isTwelve}
 use Rattle.symbol.specs.declared.Symbol.{Symbol}
 use Rattle.character_rules.specs.Disparity.{isDisparity}
 use Rattle.character_rules.specs.Demand.{canWrite}
 use Rattle.character_rules.specs.Writing.{closingOf}
-use Rattle.crc.specs.Crc16.{crcStart, crcFrom, checkBytesOf, crcOf}
+use Rattle.crc.specs.Crc16.{crcStart, crcFrom, crcOf}
 use Rattle.crc.proofs.Laws.{check-bytes}
 use Rattle.packet_rules.specs.Answers.{Said, gaveByte}
 use Rattle.segment_size.specs.Sizes.{sizeAllowed}
-use Rattle.packet_rules.specs.Line.{SPP, SDP, SLP, endSymbol, Fill, reply, Inside, end, byte, closing, PriorityLine, priority, Within, fill, nested, DataLine, packet, Outside, within, data-packet}
-use Rattle.packet_rules.specs.Packets.{Packet, inData, inPriority, retry, packetSymbols, retryByte, symbolsOf, packetChecks, saidFor, PacketWriting, wrote, notWrote, packetWriting, packetOutput}
+use Rattle.packet_rules.specs.Line.{SPP, SDP, endSymbol, Fill, reply, Inside, end, byte, closing, priority, Within, fill, nested, packet, Outside, within, data-packet}
+use Rattle.packet_rules.specs.Packets.{Packet, inData, inPriority, retry, packetSymbols, symbolsOf, packetChecks, saidFor, PacketWriting, wrote, notWrote, packetWriting, packetOutput}
 use Rattle.packet_rules.specs.RoundTrip.{Allowed}
 use Rattle.packet_rules.proofs.Read.{all-append}
 

@@ -3,7 +3,7 @@
 use mathlib.Core.Path.{_≡_, refl, sym, ap, subst, _∙_}
 use mathlib.Core.Bool.{Bool, true, false, cond, not}
 use mathlib.Core.List.{[], _∷_}
-use mathlib.Core.Option.{none, some, Option·none-ne-some}
+use mathlib.Core.Option.{none, Option·none-ne-some}
 use Prim.Native.Nat.{ℕ}
 use borrow.Author.Tests.{eqb-true}
 use lib.Dec.{eqb}
@@ -16,14 +16,12 @@ use Rattle.character_rules.specs.Answers.{Reading, clean}
 use Rattle.packet_rules.specs.declared.Opener.the-variants.{Sdp, Spp, Slp}
 use Rattle.packet_rules.specs.declared.Kind.{Kind}
 use Rattle.packet_rules.specs.declared.Kind.the-variants.{Data, Idl, Com, Opens, Closes, NoPlace, Unsupported}
-use Rattle.packet_rules.specs.declared.PriorityPacket.{PriorityPacket}
-use Rattle.packet_rules.specs.declared.PriorityPacket.the-variants.{NoPriority, InPriority}
 use Rattle.packet_rules.specs.declared.Reader.{Reader}
-use Rattle.packet_rules.specs.Answers.{Answer, violated}
+use Rattle.packet_rules.specs.Answers.{Answer}
 use Rattle.packet_rules.specs.State.{wellFormed}
 use Rattle.packet_rules.specs.Symbols.{controlKind, kindOf}
 use Rattle.packet_rules.specs.Violations.{conditions, tenConditions, violationOf}
-use Rattle.packet_rules.specs.Step.{closesOwn, move, broken, dropped, isDropping, judged, symbolIn, isResult, readOf, stepChecks, refusedStep, stepOf}
+use Rattle.packet_rules.specs.Step.{move, broken, dropped, isDropping, judged, symbolIn, isResult, readOf, stepChecks, refusedStep, stepOf}
 use Rattle.packet_rules.specs.Line.{COM, IDL, SPP, SDP, SLP, endSymbol}
 use Rattle.packet_rules.proofs.Violated.{broken-said}
 use Rattle.packet_rules.proofs.Choice.{either, by-outcome}

@@ -1,17 +1,15 @@
 -- Characters that were written of symbols, read from the same disparity, are these symbols, clean, and close where the writer did.
 -- Assumes nothing.
-use mathlib.Core.Path.{_≡_, refl, sym, ap, subst, _∙_}
-use mathlib.Core.Bool.{Bool, true}
-use mathlib.Core.List.{List, [], _∷_, _++_, map}
-use Prim.Native.Nat.{ℕ, suc}
+use mathlib.Core.Path.{_≡_, refl, sym, subst}
+use mathlib.Core.Bool.{Bool}
+use mathlib.Core.List.{List, [], _∷_, _++_}
 use lib.Dec.{T}
 use lib.IntN.{ℤ}
-use lib.ListN.{length}
 use Rattle.laws.specs.Lists.{allOf}
 use Rattle.laws.proofs.Bools.{and-left, and-right, and-both}
 use Rattle.symbol.specs.declared.Symbol.{Symbol}
 use Rattle.character_rules.specs.Disparity.{isDisparity}
-use Rattle.character_rules.specs.Blocks.{character, closing}
+use Rattle.character_rules.specs.Blocks.{closing}
 use Rattle.character_rules.specs.Answers.{Reading, clean}
 use Rattle.character_rules.specs.Results.{newDisparity, readingsOf, runClosing}
 use Rattle.character_rules.specs.Demand.{canWrite}

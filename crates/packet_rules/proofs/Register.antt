@@ -1,11 +1,11 @@
 -- In every state that a fresh reader comes to, whatever it was given: a packet is open exactly if it was seen to start and not to close, its count is
 -- the number of bytes given since its start, and its register is their CRC.
 -- Assumes nothing.
-use mathlib.Core.Path.{_≡_, refl, sym, ap, ap₂, _∙_}
-use mathlib.Core.Bool.{Bool, true, false, cond, not, _&&_}
+use mathlib.Core.Path.{_≡_, refl, sym, ap, _∙_}
+use mathlib.Core.Bool.{Bool, true, false, cond, _&&_}
 use mathlib.Core.List.{List, [], _∷_, _++_}
 use mathlib.Core.Option.{Option, none, some}
-use Prim.Native.Nat.{ℕ, zero, suc, _+_, _/_, _%_}
+use Prim.Native.Nat.{ℕ, _+_, _/_, _%_}
 use native.Mathlib.Omega.{arith}
 use lib.Dec.{eqb, ltb}
 use lib.ListN.{length, length-append}
@@ -26,9 +26,9 @@ use Rattle.packet_rules.specs.declared.Reader.{Reader}
 use Rattle.packet_rules.specs.Answers.{Said, Answer, nothing, gaveByte, ended, replied, violated}
 use Rattle.packet_rules.specs.State.{outside, fedPriority, fedData, fresh}
 use Rattle.packet_rules.specs.Violations.{violationOf}
-use Rattle.packet_rules.specs.Step.{answer, dueAfter, idlesAfter, userByte, freeMove, closesOwn, lmpSaid, dueMove, byteOf, move, broken, awakens, dropped, isDropping, judged, kindIn, readOf, stepChecks, refusedStep, stepOf}
+use Rattle.packet_rules.specs.Step.{dueAfter, idlesAfter, userByte, freeMove, closesOwn, lmpSaid, dueMove, byteOf, move, broken, awakens, dropped, isDropping, judged, kindIn, readOf, stepChecks, refusedStep, stepOf}
 use Rattle.packet_rules.specs.Line.{saidOf, afterOf}
-use Rattle.packet_rules.specs.History.{Seen, seenNothing, seenViolation, seenEnd, seenAfter, seenIn}
+use Rattle.packet_rules.specs.History.{Seen, seenNothing, seenEnd, seenAfter, seenIn}
 use Rattle.packet_rules.proofs.Choice.{either, by-outcome}
 
 abbrev isSome : List ℕ → Bool

@@ -1,11 +1,11 @@
 -- Worked lines from a fresh reader with S = 8, each with all that is said of it: every violation, and what it leaves.
 -- Assumes nothing.
 use mathlib.Core.Path.{_≡_, refl}
-use mathlib.Core.Bool.{Bool, true, false, xor}
+use mathlib.Core.Bool.{true, false, xor}
 use mathlib.Core.List.{List, [], _∷_, map}
-use mathlib.Core.Option.{Option, none, some}
+use mathlib.Core.Option.{none, some}
 use Prim.Native.Nat.{ℕ}
-use lib.IntN.{ℤ, pos}
+use lib.IntN.{pos}
 use Rattle.segment_size.specs.Sizes.{sizeAllowed}
 use Rattle.laws.specs.Check.{overlay, checkBit, checkBits, lowestFirst, numberOf, bitsOf, bytesOf}
 use Rattle.symbol.specs.Symbols.{dataSymbol, controlSymbol, isTwelve}

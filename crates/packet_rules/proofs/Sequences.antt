@@ -1,9 +1,9 @@
 -- A reader and a writer that have the round trip have it of any sequence of packets, one after another.
 -- Assumes nothing.
 use mathlib.Core.Path.{_≡_, refl, sym, ap, ap₂, subst, _∙_}
-use mathlib.Core.Bool.{Bool, true}
+use mathlib.Core.Bool.{true}
 use mathlib.Core.List.{List, [], _∷_, _++_}
-use mathlib.Core.Option.{Option, none, some, Option·some-injective}
+use mathlib.Core.Option.{Option·some-injective}
 use Prim.Native.Nat.{ℕ}
 use lib.Dec.{T}
 use lib.IntN.{ℤ}
@@ -14,7 +14,7 @@ use Rattle.character_rules.specs.Results.{readingsOf, runClosing}
 use Rattle.character_rules.proofs.RunLaws.{readings-append, closing-append}
 use Rattle.packet_rules.specs.Answers.{Said}
 use Rattle.segment_size.specs.Sizes.{sizeAllowed}
-use Rattle.packet_rules.specs.Packets.{Packet, symbolsOf, PacketWriting, saidFor}
+use Rattle.packet_rules.specs.Packets.{Packet, symbolsOf, PacketWriting}
 use Rattle.packet_rules.specs.RoundTrip.{PacketReader, PacketWriter, AllClean, saysOf, leftOf, ReadBack, PacketRoundTrip, Sequence, last, first, saidForAll}
 
 -- ---- two lines, one after the other

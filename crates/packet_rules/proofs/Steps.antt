@@ -1,33 +1,27 @@
 -- One step on each symbol that stands in its place, in any state that keeps the rule.
 -- Assumes nothing.
-use mathlib.Core.Path.{_≡_, refl, sym, ap, _∙_}
-use mathlib.Core.Bool.{Bool, true, false, cond, not, _&&_, _||_}
-use mathlib.Core.List.{List, [], _∷_}
-use mathlib.Core.Option.{Option, none, some}
-use Prim.Native.Nat.{ℕ, _+_, _-_, _*_, _/_, _%_, _<_}
+use mathlib.Core.Path.{_≡_, refl}
+use mathlib.Core.Bool.{Bool, true, false}
+use mathlib.Core.Option.{none, some}
+use Prim.Native.Nat.{ℕ, _-_, _/_, _%_}
 use native.Mathlib.Omega.{arith}
-use borrow.Author.Tests.{eq-eqb, ne-eqb, lt-ltb}
+use borrow.Author.Tests.{eq-eqb}
 use lib.Bits.{bitXor}
-use lib.Dec.{eqb, ltb, leb}
+use lib.Dec.{leb}
 use lib.IntN.{ℤ}
 use lib.ListN.{getD}
-use Rattle.symbol.specs.Symbols.{dataSymbol, controlSymbol, isTwelve}
-use Rattle.character_rules.specs.Answers.{Reading, clean}
+use Rattle.symbol.specs.Symbols.{dataSymbol, isTwelve}
+use Rattle.character_rules.specs.Answers.{clean}
 use Rattle.crc.specs.Crc16.{crcStart, checkBytesOf}
-use Rattle.packet_rules.specs.declared.Opener.{Opener}
-use Rattle.packet_rules.specs.declared.Opener.the-variants.{Sdp, Spp, Slp}
-use Rattle.packet_rules.specs.declared.Kind.{Kind}
-use Rattle.packet_rules.specs.declared.Kind.the-variants.{Data, Idl, Com, Opens, Closes, NoPlace, Unsupported}
 use Rattle.packet_rules.specs.declared.DataPacket.{DataPacket}
 use Rattle.packet_rules.specs.declared.DataPacket.the-variants.{NoData, InData}
 use Rattle.packet_rules.specs.declared.PriorityPacket.{PriorityPacket}
 use Rattle.packet_rules.specs.declared.PriorityPacket.the-variants.{NoPriority, InPriority}
-use Rattle.packet_rules.specs.declared.Due.{Due}
 use Rattle.packet_rules.specs.declared.Due.the-variants.{Channel, Opening, Closing, FirstCrc, SecondCrc, LmpType, LmpNumber, LmpCheck}
 use Rattle.packet_rules.specs.declared.Phase.{Phase}
-use Rattle.packet_rules.specs.declared.Phase.the-variants.{Free, Next, Idles, Dropping}
+use Rattle.packet_rules.specs.declared.Phase.the-variants.{Free, Next, Idles}
 use Rattle.packet_rules.specs.declared.Reader.{Reader}
-use Rattle.packet_rules.specs.Answers.{Said, Answer, nothing, started, gaveByte, ended, replied}
+use Rattle.packet_rules.specs.Answers.{nothing, started, gaveByte, ended}
 use Rattle.packet_rules.specs.State.{noPriority, outside, hasByte, openingByte, registerIn, fedPriority, fedData, wellFormed}
 use Rattle.packet_rules.specs.Symbols.{controlKind, kindOf}
 use Rattle.packet_rules.specs.Violations.{isFull, violationOf}

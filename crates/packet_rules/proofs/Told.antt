@@ -1,12 +1,8 @@
 -- What an answer says tells which answer it is: so no second answer fits a contract.
 -- Assumes nothing.
-use mathlib.Core.Path.{_≡_, refl, sym, ap, ap₂, _∙_}
-use mathlib.Core.Bool.{Bool}
-use mathlib.Core.Option.{Option, none, some}
-use Prim.Native.Nat.{ℕ}
+use mathlib.Core.Path.{_≡_, refl, sym, ap, _∙_}
 use Rattle.packet_rules.specs.declared.Event.{Event}
 use Rattle.packet_rules.specs.declared.Event.the-variants.{Nothing, StartData, StartPriority, Byte, End, Lmp, Violation, Refused}
-use Rattle.packet_rules.specs.declared.Reader.{Reader}
 use Rattle.packet_rules.specs.declared.Step.{Step}
 use Rattle.packet_rules.specs.declared.FreshReader.{FreshReader}
 use Rattle.packet_rules.specs.declared.FreshReader.the-variants.{Ready, Refused as NotMade}
@@ -14,7 +10,7 @@ use Rattle.packet_rules.specs.declared.Written.{Written}
 use Rattle.packet_rules.specs.declared.Written.the-variants.{Done, Refused as NotDone}
 use Rattle.packet_rules.specs.Packets.{PacketWriting, writtenSays}
 use Rattle.packet_rules.specs.History.{given}
-use Rattle.packet_rules.specs.Answers.{Said, Start, Reply, Answer, Made, eventSays, stepSays, freshSays}
+use Rattle.packet_rules.specs.Answers.{Said, Start, Answer, Made, eventSays, stepSays, freshSays}
 
 abbrev theStart : Start → Event
 theStart s = given (s .segment) (StartPriority (s .channel)) (StartData (s .channel))

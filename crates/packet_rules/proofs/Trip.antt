@@ -11,17 +11,17 @@ use lib.Seq.{take-at}
 use Rattle.refusal.proofs.Laws.{done}
 use Rattle.character_rules.specs.Disparity.{isDisparity}
 use Rattle.character_rules.specs.Answers.{Reading}
-use Rattle.character_rules.specs.Results.{readingsOf, runClosing}
+use Rattle.character_rules.specs.Results.{readingsOf}
 use Rattle.character_rules.specs.Writing.{charactersOf, closingOf}
 use Rattle.character_rules.proofs.WriteLaws.{closing-is, length-characters}
 use Rattle.packet_rules.specs.declared.Reader.{Reader}
-use Rattle.packet_rules.specs.Answers.{Said, Answer}
+use Rattle.packet_rules.specs.Answers.{Said}
 use Rattle.packet_rules.specs.State.{fresh}
 use Rattle.segment_size.specs.Sizes.{sizeAllowed}
 use Rattle.packet_rules.specs.Step.{stepOf}
 use Rattle.packet_rules.specs.Line.{saidOf, afterOf}
-use Rattle.packet_rules.specs.Packets.{Packet, inData, retry, symbolsOf, packetChecks, PacketWriting, wrote, notWrote, packetWriting, packetOutput, saidFor}
-use Rattle.packet_rules.specs.RoundTrip.{PacketReader, PacketWriter, Allowed, AllClean, saysOf, leftOf, ReadBack, PacketRoundTrip}
+use Rattle.packet_rules.specs.Packets.{Packet, inData, retry, symbolsOf, packetChecks, wrote, notWrote, packetWriting, packetOutput, saidFor}
+use Rattle.packet_rules.specs.RoundTrip.{PacketReader, PacketWriter, Allowed, saysOf, leftOf, ReadBack, PacketRoundTrip}
 use Rattle.packet_rules.proofs.Kept.{fresh-kept}
 use Rattle.packet_rules.proofs.Runs.{runs-said}
 use Rattle.packet_rules.proofs.Legal.{outsides}

@@ -1,18 +1,13 @@
 -- What a violation leaves: seen from outside, by the number that the step gives.
 -- Assumes nothing.
-use mathlib.Core.Path.{_≡_, refl, sym, ap, subst, _∙_}
-use mathlib.Core.Bool.{Bool, true, false, cond, not, _&&_}
-use mathlib.Core.List.{List, [], _∷_}
-use mathlib.Core.Option.{Option, none, some, Option·none-ne-some, Option·some-injective}
-use Prim.Native.Nat.{ℕ, zero, suc, _+_, _-_, _/_, _%_}
+use mathlib.Core.Path.{_≡_, refl, sym, ap, _∙_}
+use mathlib.Core.Bool.{Bool, true, false, _&&_}
+use mathlib.Core.Option.{none, some, Option·none-ne-some, Option·some-injective}
+use Prim.Native.Nat.{ℕ, _+_, _-_, _/_, _%_}
 use native.Mathlib.Omega.{arith}
-use borrow.Author.Tests.{eq-eqb, ne-eqb, eqb-true, eqb-false}
+use borrow.Author.Tests.{eq-eqb, ne-eqb}
 use lib.Dec.{eqb, ltb}
-use Rattle.refusal.specs.Order.{check, refusalOf, outcome}
-use Rattle.refusal.proofs.Laws.{done}
 use Rattle.character_rules.specs.Answers.{Reading}
-use Rattle.packet_rules.specs.declared.Opener.{Opener}
-use Rattle.packet_rules.specs.declared.Opener.the-variants.{Sdp, Spp, Slp}
 use Rattle.packet_rules.specs.declared.Kind.{Kind}
 use Rattle.packet_rules.specs.declared.Kind.the-variants.{Data, Idl, Com, Opens, Closes, NoPlace, Unsupported}
 use Rattle.packet_rules.specs.declared.DataPacket.{DataPacket}
@@ -24,11 +19,11 @@ use Rattle.packet_rules.specs.declared.Due.the-variants.{Channel, Openin
 use Rattle.packet_rules.specs.declared.Phase.{Phase}
 use Rattle.packet_rules.specs.declared.Phase.the-variants.{Free, Next, Idles, Dropping}
 use Rattle.packet_rules.specs.declared.Reader.{Reader}
-use Rattle.packet_rules.specs.Answers.{Said, Answer, nothing, ended, replied, violated, refused}
+use Rattle.packet_rules.specs.Answers.{Said, Answer, nothing, ended, replied, violated}
 use Rattle.packet_rules.specs.State.{wellFormed}
 use Rattle.packet_rules.specs.Violations.{tenConditions, violationOf}
-use Rattle.packet_rules.specs.Step.{answer, userByte, freeMove, closesOwn, lmpSaid, dueMove, byteOf, move, broken, awakens, dropped, isDropping, judged, kindIn, symbolIn, isResult, readOf, stepChecks, refusedStep, stepOf}
-use Rattle.packet_rules.proofs.Lowest.{NoneOf, FirstAt, lowest-none, none-lowest, first-lowest}
+use Rattle.packet_rules.specs.Step.{userByte, freeMove, closesOwn, lmpSaid, dueMove, byteOf, move, broken, awakens, dropped, isDropping, judged, kindIn, symbolIn, isResult, readOf, stepChecks, refusedStep, stepOf}
+use Rattle.packet_rules.proofs.Lowest.{NoneOf, FirstAt, none-lowest, first-lowest}
 use Rattle.packet_rules.proofs.Choice.{either, by-outcome}
 
 -- ---- a step that is not refused

@@ -4,10 +4,9 @@ use mathlib.Core.Path.{_≡_, refl, sym, ap, _∙_}
 use mathlib.Core.Bool.{Bool, true, false, not, _||_}
 use mathlib.Core.List.{List, [], _∷_}
 use mathlib.Core.Option.{Option, none, some}
-use Prim.Native.Nat.{ℕ, _≤_, _<_}
+use Prim.Native.Nat.{ℕ}
 use native.Mathlib.Omega.{arith}
-use lib.Dec.{T}
-use lib.IntN.{ℤ, pos}
+use lib.IntN.{pos}
 use lib.ListN.{length, take, replicate}
 use Rattle.segment_size.specs.Sizes.{sizeAllowed}
 use Rattle.laws.proofs.Cases.{false-is-not-true}
@@ -15,7 +14,7 @@ use Rattle.character_rules.specs.Answers.{Reading}
 use Rattle.character_rules.specs.Results.{readingsOf}
 use Rattle.packet_rules.specs.Answers.{Said}
 use Rattle.packet_rules.specs.Line.{SDP}
-use Rattle.packet_rules.specs.Packets.{Packet, inData, symbolsOf, saidFor}
+use Rattle.packet_rules.specs.Packets.{inData, symbolsOf, saidFor}
 use Rattle.packet_rules.specs.RoundTrip.{PacketReader, PacketWriter, saysOf, PacketRoundTrip}
 use Rattle.packet_rules.proofs.Packets.{length-packet}
 

@@ -1,6 +1,6 @@
 -- What the answers say, in document 01's numbers and values.
 use Prim.Native.Nat.{ℕ}
-use mathlib.Core.Bool.{Bool, true, false}
+use mathlib.Core.Bool.{Bool}
 use mathlib.Core.Option.{Option, none, some}
 use Rattle.packet_rules.specs.declared.Event.{Event}
 use Rattle.packet_rules.specs.declared.Event.the-variants.{Nothing, StartData, StartPriority, Byte, End, Lmp, Violation, Refused}

@@ -1,9 +1,9 @@
 -- A legal line, from document 01's sentences alone: who may stand where, and what the reader says of each symbol. It knows no state.
 use Prim.Native.Nat.{ℕ, _+_, _*_, _≤_, _<_}
 use mathlib.Core.Path.{_≡_}
-use mathlib.Core.Bool.{Bool, true, false, cond, _&&_, _||_}
+use mathlib.Core.Bool.{Bool, false, cond, _&&_, _||_}
 use mathlib.Core.List.{List, [], _∷_, _++_, map}
-use mathlib.Core.Option.{Option, none, some}
+use mathlib.Core.Option.{none, some}
 use lib.Bits.{bitXor}
 use lib.Dec.{eqb, ltb}
 use lib.IntN.{ℤ}

@@ -1,6 +1,6 @@
 -- What writing a packet comes to: its symbols, their characters from a disparity, the refusals, and what the output holds afterwards.
 use Prim.Native.Nat.{ℕ, _+_, _*_}
-use mathlib.Core.Bool.{Bool, true, false, cond, not, _||_}
+use mathlib.Core.Bool.{Bool, cond, not}
 use mathlib.Core.List.{List, [], _∷_, _++_, map}
 use mathlib.Core.Option.{Option, none, some}
 use lib.Bits.{bitXor}

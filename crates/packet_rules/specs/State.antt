@@ -1,7 +1,7 @@
 -- The reader's state: what is open, what a packet so far has, and the state's written rule.
 use Prim.Native.Nat.{ℕ, _+_}
 use mathlib.Core.Bool.{Bool, true, false, not, _&&_, _||_}
-use mathlib.Core.List.{List, [], _∷_}
+use mathlib.Core.List.{[], _∷_}
 use lib.Dec.{eqb, ltb, leb}
 use Rattle.segment_size.specs.Sizes.{sizeAllowed}
 use Rattle.refusal.specs.Order.{check, outcome}

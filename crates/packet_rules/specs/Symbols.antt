@@ -1,11 +1,8 @@
 -- What the reader tells apart among the symbols, by document 01's list.
 use Prim.Native.Nat.{ℕ}
 use mathlib.Core.Bool.{Bool, true, false, cond}
-use mathlib.Core.Option.{Option, none, some}
 use lib.Dec.{eqb}
-use Rattle.symbol.specs.Symbols.{isSymbol}
 use Rattle.symbol.specs.declared.Symbol.{Symbol}
-use Rattle.packet_rules.specs.declared.Opener.{Opener}
 use Rattle.packet_rules.specs.declared.Opener.the-variants.{Sdp, Spp, Slp}
 use Rattle.packet_rules.specs.declared.Kind.{Kind}
 use Rattle.packet_rules.specs.declared.Kind.the-variants.{Data, Idl, Com, Opens, Closes, NoPlace, Unsupported}

@@ -1,13 +1,12 @@
 -- The ten violations, each by a condition of its own; where several fit, the lowest.
-use Prim.Native.Nat.{ℕ, zero, suc}
-use mathlib.Core.Bool.{Bool, true, false, cond, not, _&&_, _||_}
+use Prim.Native.Nat.{ℕ, suc}
+use mathlib.Core.Bool.{Bool, true, false, cond, not, _&&_}
 use mathlib.Core.List.{List, [], _∷_}
 use lib.Dec.{eqb, leb}
 use lib.Bits.{bitXor}
 use lib.ListN.{getD}
 use Rattle.character_rules.specs.Answers.{Reading}
 use Rattle.crc.specs.Crc16.{checkBytesOf}
-use Rattle.packet_rules.specs.declared.Opener.{Opener}
 use Rattle.packet_rules.specs.declared.Opener.the-variants.{Sdp, Spp, Slp}
 use Rattle.packet_rules.specs.declared.Kind.{Kind}
 use Rattle.packet_rules.specs.declared.Kind.the-variants.{Data, Idl, Com, Opens, Closes, NoPlace, Unsupported}

@@ -1,8 +1,8 @@
 -- What a public call comes to, from the number it is refused with or from what was written.
 -- Assumes nothing.
-use mathlib.Core.Path.{_≡_, ap, ap₂, sym, subst, _∙_}
+use mathlib.Core.Path.{_≡_, ap, sym, subst, _∙_}
 use mathlib.Core.Bool.{Bool}
-use mathlib.Core.List.{List, [], _∷_, _++_}
+use mathlib.Core.List.{List, _++_}
 use Prim.Native.Nat.{ℕ, _+_, _*_}
 use native.Mathlib.Nat.{zero-add}
 use lib.IntN.{ℤ}
@@ -12,7 +12,7 @@ use Rattle.refusal.proofs.Laws.{done, refused, hands-back}
 use Rattle.character_rules.specs.Writing.{charactersOf, closingOf}
 use Rattle.packet_rules.specs.Line.{SPP}
 use Rattle.packet_rules.specs.Packets.{Packet, inPriority, packetSymbols, symbolsOf, packetChecks}
-use Rattle.packet_rules.specs.Packets.{PacketWriting, wrote, notWrote, packetWriting, packetOutput}
+use Rattle.packet_rules.specs.Packets.{wrote, notWrote, packetWriting, packetOutput}
 use Rattle.packet_writer.specs.declared.Place.{Place}
 use Rattle.packet_writer.specs.Writing.{Wrote}
 

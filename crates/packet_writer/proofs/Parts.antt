@@ -6,11 +6,10 @@ use mathlib.Core.List.{List, [], _∷_, _++_, map}
 use Prim.Native.Nat.{ℕ, _+_, _-_, _/_, _%_, _<_}
 use native.Mathlib.Omega.{arith}
 use borrow.Author.Tests.{ne-eqb}
-use lib.Dec.{T, eqb}
-use lib.ListN.{length}
+use lib.Dec.{T}
 use Rattle.laws.specs.Lists.{allOf}
 use Rattle.laws.proofs.Bools.{and-both}
-use Rattle.symbol.specs.Symbols.{dataSymbol, controlSymbol}
+use Rattle.symbol.specs.Symbols.{dataSymbol}
 use Rattle.symbol.specs.declared.Symbol.{Symbol}
 use Rattle.character_rules.specs.Demand.{canWrite}
 use Rattle.crc.specs.Crc16.{crcStart, crcFrom, checkBytesOf, crcOf}

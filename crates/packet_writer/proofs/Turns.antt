@@ -1,7 +1,7 @@
 -- One turn of a loop that writes the symbols of a list of numbers, each by the same rule.
 -- Assumes nothing.
 use mathlib.Core.Path.{_≡_, refl, ap, sym, _∙_, subst}
-use mathlib.Core.Bool.{Bool, true, _&&_}
+use mathlib.Core.Bool.{Bool}
 use mathlib.Core.List.{List, [], _∷_, _++_, map}
 use Prim.Native.Nat.{ℕ, zero, suc, _+_, _≤_, _<_}
 use native.Mathlib.Numerals.{add-one}
@@ -14,7 +14,6 @@ use Rattle.laws.specs.Lists.{allOf}
 use Rattle.laws.proofs.Bools.{and-left, and-right}
 use Rattle.symbol.specs.declared.Symbol.{Symbol}
 use Rattle.character_rules.specs.Disparity.{isDisparity}
-use Rattle.character_rules.specs.Writing.{closingOf}
 use Rattle.character_rules.proofs.WriteLaws.{closing-is}
 use Rattle.packet_writer.specs.declared.Place.{Place}
 use Rattle.packet_writer.specs.Writing.{Wrote}

@@ -10,7 +10,6 @@ use retry_state::sender_is_ruled;
 use segment_size::size_is_allowed;
 ghost use mathlib.Core.Path.{_≡_};
 ghost use Rattle.refusal.specs.Order.{refusalOf};
-ghost use Rattle.retry_rules.specs.Refused.{refusedSender};
 ghost use Rattle.retry_rules.specs.Fresh.{senderWith, freshChecks, freshSenderOf, resetChecks, resetOf};
 
 // Nothing stored, the timer at its start.

@@ -1,7 +1,6 @@
 -- Document 01, "Retry": segments are numbered 0 to 15 and round; "the last eight really received" and "really released".
 use Prim.Native.Nat.{ℕ, zero, suc, _+_, _-_, _%_, min}
 use mathlib.Core.Bool.{Bool, true, cond, _&&_}
-use mathlib.Core.List.{[], _∷_}
 use lib.Dec.{ltb, leb, eqb}
 
 -- T columns, 1 to 65,535

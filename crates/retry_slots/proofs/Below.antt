@@ -1,6 +1,6 @@
 -- There are eight buffers, and each ends within the lent run.
 -- Assumes nothing.
-use mathlib.Core.Path.{_≡_, sym}
+use mathlib.Core.Path.{_≡_}
 use Prim.Native.Nat.{ℕ, _+_, _*_, _≤_, _<_}
 use native.Mathlib.Omega.{arith}
 use Rattle.retry_rules.specs.declared.Counters.{Counters}

@@ -1,6 +1,6 @@
 -- S, the segment size, which the packets and both ends of the retry share.
 use mathlib.Core.Bool.{Bool}
-use mathlib.Core.List.{List, [], _∷_}
+use mathlib.Core.List.{[], _∷_}
 use Prim.Native.Nat.{ℕ}
 use Rattle.laws.specs.Lists.{oneOf}
 

@@ -1,11 +1,10 @@
 -- The twelve by five tests: the remainder by 32, and four bytes.
 -- Assumes nothing.
-use mathlib.Core.Path.{_≡_, refl, sym, _∙_}
+use mathlib.Core.Path.{_≡_}
 use mathlib.Core.Bool.{Bool, _||_}
 use Prim.Native.Nat.{ℕ, _%_, _<_}
-use lib.Dec.{T, eqb}
-use lib.ListN.{length}
-use borrow.Author.Tests.{eq-eqb, ne-eqb}
+use lib.Dec.{eqb}
+use borrow.Author.Tests.{ne-eqb}
 use Rattle.laws.specs.Lists.{countFrom}
 use Rattle.laws.proofs.Bools.{agree, agree-eq}
 use Rattle.laws.proofs.Table.{at}

@@ -1,6 +1,6 @@
 -- Document 01, "Characters": a symbol is a byte and a control mark; which are control, writable, and open a packet.
 use Prim.Native.Nat.{ℕ, _+_, _*_}
-use mathlib.Core.Bool.{Bool, true, false, cond, _&&_, _||_, not}
+use mathlib.Core.Bool.{Bool, true, false, _&&_, _||_, not}
 use mathlib.Core.List.{List, [], _∷_, _++_, map}
 use lib.Dec.{eqb}
 use Rattle.laws.specs.Lists.{oneOf, countFrom}

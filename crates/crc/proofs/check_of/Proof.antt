@@ -1,9 +1,9 @@
 -- The check bytes of the register after the message.
 -- Assumes nothing.
-use mathlib.Core.Path.{_≡_, sym, ap, _∙_}
+use mathlib.Core.Path.{sym, ap, _∙_}
 use Prim.Native.Nat.{ℕ}
 use borrow.Author.Needs.{needs}
-use Rattle.crc.specs.Crc16.{crcStart, crcFrom, checkBytesOf, crcOf}
+use Rattle.crc.specs.Crc16.{crcFrom, checkBytesOf, crcOf}
 use Rattle.crc.proofs.Laws.{start-value}
 use Rattle.crc.proofs.check_of.Statement.{statement}
 use Rattle.crc.proofs.check_of.Tie as tie

@@ -1,6 +1,6 @@
 -- The upper half moved down, and the low byte's eight steps as moves.
 -- Assumes nothing.
-use mathlib.Core.Path.{_≡_, sym, ap, _∙_}
+use mathlib.Core.Path.{sym, ap, _∙_}
 use Prim.Native.Nat.{ℕ, _*_, _/_, _%_, _<_}
 use native.Mathlib.Omega.{arith}
 use lib.Bits.{bitXor, xor-lt}

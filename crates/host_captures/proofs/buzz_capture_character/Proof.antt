@@ -1,6 +1,6 @@
 -- The answer taken apart: a character, which is below 1,024, or a refusal.
 -- Assumes nothing.
-use mathlib.Core.Path.{_≡_, refl, sym, ap, _∙_}
+use mathlib.Core.Path.{refl, sym, ap, _∙_}
 use native.Mathlib.Omega.{arith}
 use Rattle.capture_rules.specs.Calls.{says}
 use Rattle.host_rules.proofs.Captures.{character-answered}

@@ -1,6 +1,6 @@
 -- The answer taken apart: a symbol clean or at the wrong disparity, none, or a refusal, which leaves all as it stood.
 -- Assumes nothing.
-use mathlib.Core.Path.{_≡_, refl, sym, ap, _∙_}
+use mathlib.Core.Path.{refl, sym, ap, _∙_}
 use Rattle.character_rules.specs.Answers.{readingSays}
 use Rattle.character_rules.specs.Reading.{reading}
 use Rattle.host_rules.proofs.Signed.{same}

@@ -1,6 +1,6 @@
 -- The answer taken apart: the disparity after the run, or a refusal.
 -- Assumes nothing.
-use mathlib.Core.Path.{_≡_, refl, sym, ap, _∙_}
+use mathlib.Core.Path.{refl, sym, ap, _∙_}
 use lib.IntN.{ℤ}
 use lib.ListN.{length}
 use Rattle.character_rules.specs.Answers.{runSays}

@@ -1,6 +1,6 @@
 -- By whether the byte is one; then the answer taken apart.
 -- Assumes nothing.
-use mathlib.Core.Path.{_≡_, refl, sym, ap, _∙_}
+use mathlib.Core.Path.{refl, sym, ap, _∙_}
 use Rattle.character_rules.specs.Answers.{writingSays}
 use Rattle.character_rules.specs.Writing.{writing}
 use Rattle.host_rules.specs.Characters.{symbolOf}

@@ -1,6 +1,6 @@
 -- A refusal leaves all as it stood; else the new state's bytes, the disparity after the capture, its events and their number.
 -- Assumes nothing.
-use mathlib.Core.Path.{_≡_, refl, sym, ap, _∙_}
+use mathlib.Core.Path.{refl, sym, ap, _∙_}
 use lib.IntN.{ℤ}
 use lib.ListN.{length}
 use Rattle.host_rules.proofs.Signed.{same}

@@ -1,6 +1,6 @@
 -- The answer taken apart: a reader's bytes, or a refusal.
 -- Assumes nothing.
-use mathlib.Core.Path.{_≡_, refl, sym, ap, _∙_}
+use mathlib.Core.Path.{refl, sym, ap, _∙_}
 use Rattle.packet_rules.specs.Answers.{freshSays}
 use Rattle.host_calls.proofs.PacketLaws.{begin-done, begin-refused}
 use borrow.Author.Needs.{needs}

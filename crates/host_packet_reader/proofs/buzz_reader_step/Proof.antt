@@ -1,6 +1,6 @@
 -- A refusal leaves all as it stood; else the new state's bytes and the event's numbers.
 -- Assumes nothing.
-use mathlib.Core.Path.{_≡_, refl, sym, ap, _∙_}
+use mathlib.Core.Path.{refl, sym}
 use Rattle.host_calls.specs.PacketCalls.{Steps}
 use Rattle.host_calls.proofs.PacketLaws.{step-refused, step-done}
 use borrow.Author.Needs.{needs}

@@ -1,6 +1,5 @@
 -- Each part from its bytes.
 -- Assumes nothing.
-use mathlib.Core.Path.{_≡_, refl, sym, ap, _∙_}
 use Rattle.host_rules.specs.ReaderBytes.{readerIn}
 use borrow.Author.Needs.{needs}
 use Rattle.host_reader.proofs.reader_in.Statement.{statement}

@@ -1,6 +1,5 @@
 -- Each part's bytes.
 -- Assumes nothing.
-use mathlib.Core.Path.{_≡_, refl, sym, ap, _∙_}
 use Rattle.host_rules.specs.ReaderBytes.{readerBytes}
 use borrow.Author.Needs.{needs}
 use Rattle.host_reader_bytes.proofs.reader_bytes.Statement.{statement}

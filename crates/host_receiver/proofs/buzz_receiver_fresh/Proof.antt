@@ -1,6 +1,6 @@
 -- A refusal leaves the state as it stood; else the new state's bytes.
 -- Assumes nothing.
-use mathlib.Core.Path.{_≡_, refl, sym}
+use mathlib.Core.Path.{refl, sym}
 use Rattle.host_calls.proofs.ReceiverLaws.{begin-refused, begin-done}
 use borrow.Author.Needs.{needs}
 use Rattle.host_receiver.proofs.buzz_receiver_fresh.Statement.{statement}

@@ -1,6 +1,6 @@
 -- Byte by byte.
 -- Assumes nothing.
-use mathlib.Core.Path.{_≡_, refl, sym, ap, _∙_}
+use mathlib.Core.Path.{refl}
 use Rattle.host_retry_rules.specs.SenderBytes.{channelsIn}
 use borrow.Author.Needs.{needs}
 use Rattle.host_retry.proofs.channels_in.Statement.{statement}

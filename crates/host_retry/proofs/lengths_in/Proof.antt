@@ -1,6 +1,5 @@
 -- Each length from its two bytes.
 -- Assumes nothing.
-use mathlib.Core.Path.{_≡_, refl, sym, ap, _∙_}
 use Rattle.host_retry_rules.specs.SenderBytes.{lengthsIn}
 use borrow.Author.Needs.{needs}
 use Rattle.host_retry.proofs.lengths_in.Statement.{statement}

@@ -1,6 +1,6 @@
 -- Bit by bit.
 -- Assumes nothing.
-use mathlib.Core.Path.{_≡_, refl, sym, ap, _∙_}
+use mathlib.Core.Path.{refl}
 use Rattle.host_retry_rules.specs.SenderBytes.{marksOf}
 use Rattle.host_retry.proofs.marks_of.Statement.{statement}
 use Rattle.host_retry.proofs.marks_of.Tie as tie

@@ -1,6 +1,5 @@
 -- Each part from its bytes.
 -- Assumes nothing.
-use mathlib.Core.Path.{_≡_, refl, sym, ap, _∙_}
 use Rattle.host_retry_rules.specs.SenderBytes.{senderIn}
 use borrow.Author.Needs.{needs}
 use Rattle.host_retry.proofs.sender_in.Statement.{statement}

@@ -1,6 +1,5 @@
 -- Mark by mark.
 -- Assumes nothing.
-use mathlib.Core.Path.{_≡_, refl, sym, ap, _∙_}
 use Rattle.host_retry_rules.specs.SenderBytes.{maskOf}
 use Rattle.host_retry_bytes.proofs.Sums.{next, last}
 use borrow.Author.Needs.{needs}

@@ -1,6 +1,6 @@
 -- A refusal leaves all as it stood; else the new state's bytes, and what the answer says.
 -- Assumes nothing.
-use mathlib.Core.Path.{_≡_, refl, sym, ap, _∙_}
+use mathlib.Core.Path.{refl, sym}
 use Rattle.host_calls.proofs.SenderLaws.{begin-refused, begin-done}
 use borrow.Author.Needs.{needs}
 use Rattle.host_sender.proofs.buzz_sender_fresh.Statement.{statement}

@@ -1,7 +1,6 @@
 -- By the violation's number.
 -- Assumes nothing.
-use mathlib.Core.Path.{_≡_, refl, sym, ap, _∙_}
-use borrow.Author.Tests.{eq-eqb, ne-eqb, not-true, not-false}
+use borrow.Author.Tests.{eq-eqb, ne-eqb}
 use Rattle.host_rules.specs.Stepping.{resultOf}
 use Rattle.host_steps.proofs.result_of.Statement.{statement}
 use Rattle.host_steps.proofs.result_of.Tie as tie

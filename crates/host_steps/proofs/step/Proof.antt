@@ -1,12 +1,11 @@
 -- Each way out by the tests that led there.
 -- Assumes nothing.
-use mathlib.Core.Path.{_≡_, refl, sym, ap, _∙_}
-use borrow.Author.Tests.{eq-eqb, ne-eqb, not-true, not-false}
+use mathlib.Core.Path.{sym, ap, _∙_}
+use borrow.Author.Tests.{not-true, not-false}
 use lib.IntN.{negsuc}
 use Rattle.packet_rules.specs.declared.Reader.{Reader}
-use Rattle.character_rules.specs.Answers.{Reading, invalid}
+use Rattle.character_rules.specs.Answers.{invalid}
 use Rattle.packet_rules.specs.Step.{refusedStep, stepOf}
-use Rattle.host_rules.specs.ReaderBytes.{readerIn}
 use Rattle.host_rules.specs.Stepping.{resultOf}
 use Rattle.host_rules.proofs.Stepping.{step-no-reader, step-no-violation, step-invalid, step-no-byte, step-done}
 use borrow.Author.Needs.{needs}

@@ -1,6 +1,5 @@
 -- Event by event.
 -- Assumes nothing.
-use mathlib.Core.Path.{_≡_, refl, sym, ap, _∙_}
 use Rattle.host_rules.specs.Stepping.{toldOf}
 use borrow.Author.Needs.{needs}
 use Rattle.host_steps.proofs.told.Statement.{statement}

@@ -1,8 +1,6 @@
 -- The line of each event.
 -- Assumes nothing.
 use mathlib.Core.Path.{sym, subst}
-use Prim.Native.Nat.{ℕ}
-use mathlib.Core.List.{List}
 use native.Mathlib.Omega.{arith}
 use Rattle.packet_rules.specs.Answers.{eventSays}
 use Rattle.packet_rules.specs.declared.Event.{Event}

@@ -1,7 +1,6 @@
 -- By the open priority packet.
 -- Assumes nothing.
 use borrow.Author.Needs.{needs}
-use mathlib.Core.Path.{_≡_, refl, ap, sym, _∙_}
 use Rattle.packet_answers.proofs.closed.Statement.{statement}
 use Rattle.packet_answers.proofs.closed.Tie as tie
 

@@ -1,7 +1,6 @@
 -- By the symbol.
 -- Assumes nothing.
 use borrow.Author.Needs.{needs}
-use mathlib.Core.Path.{_≡_, refl, ap, sym, _∙_}
 use Rattle.packet_answers.proofs.due_after.Statement.{statement}
 use Rattle.packet_answers.proofs.due_after.Tie as tie
 

@@ -1,6 +1,5 @@
 -- The register is at its start.
 -- Assumes nothing.
-use mathlib.Core.Path.{_≡_}
 use borrow.Author.Needs.{needs}
 use Rattle.packet_answers.proofs.started_priority.Statement.{statement}
 use Rattle.packet_answers.proofs.started_priority.Tie as tie

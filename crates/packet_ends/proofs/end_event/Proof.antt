@@ -1,7 +1,7 @@
 -- By whether the CRC is right.
 -- Assumes nothing.
 use borrow.Author.Needs.{needs}
-use mathlib.Core.Path.{_≡_, sym, _∙_}
+use mathlib.Core.Path.{sym, _∙_}
 use Rattle.packet_ends.proofs.end_event.Statement.{statement}
 use Rattle.packet_ends.proofs.end_event.Tie as tie
 

@@ -1,8 +1,7 @@
 -- Both bytes are compared with those that a writer would place.
 -- Assumes nothing.
 use borrow.Author.Needs.{needs}
-use mathlib.Core.Path.{_≡_, refl, ap, sym, _∙_}
-use borrow.Author.Tests.{le-leb, lt-leb, lt-ltb, le-ltb, eq-eqb, ne-eqb}
+use borrow.Author.Tests.{eq-eqb, ne-eqb}
 use Rattle.packet_ends.proofs.is_right_crc.Statement.{statement}
 use Rattle.packet_ends.proofs.is_right_crc.Tie as tie
 

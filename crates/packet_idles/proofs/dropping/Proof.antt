@@ -1,7 +1,6 @@
 -- By the symbol's kind.
 -- Assumes nothing.
 use borrow.Author.Needs.{needs}
-use mathlib.Core.Path.{_≡_, refl, ap, sym, _∙_}
 use Rattle.packet_idles.specs.Idles.{dropOf}
 use Rattle.packet_idles.proofs.dropping.Statement.{statement}
 use Rattle.packet_idles.proofs.dropping.Tie as tie

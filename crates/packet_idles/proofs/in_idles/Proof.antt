@@ -1,8 +1,7 @@
 -- By the symbol's kind.
 -- Assumes nothing.
 use borrow.Author.Needs.{needs}
-use mathlib.Core.Path.{_≡_, refl, ap, sym, _∙_}
-use borrow.Author.Tests.{le-leb, lt-leb, lt-ltb, le-ltb, eq-eqb, ne-eqb}
+use borrow.Author.Tests.{le-leb, lt-leb}
 use Rattle.packet_idles.specs.Idles.{idleOf}
 use Rattle.packet_idles.proofs.in_idles.Statement.{statement}
 use Rattle.packet_idles.proofs.in_idles.Tie as tie

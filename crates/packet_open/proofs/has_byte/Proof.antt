@@ -1,7 +1,6 @@
 -- By the open packets.
 -- Assumes nothing.
 use borrow.Author.Needs.{needs}
-use mathlib.Core.Path.{_≡_, refl, ap, sym, _∙_}
 use Rattle.packet_open.proofs.has_byte.Statement.{statement}
 use Rattle.packet_open.proofs.has_byte.Tie as tie
 

@@ -1,7 +1,6 @@
 -- By the character result, and whether its symbol is one.
 -- Assumes nothing.
 use borrow.Author.Needs.{needs}
-use mathlib.Core.Path.{_≡_, refl, ap, sym, _∙_}
 use Rattle.packet_reader.specs.Classes.{advanceOf}
 use Rattle.packet_reader.proofs.advance.Statement.{statement}
 use Rattle.packet_reader.proofs.advance.Tie as tie

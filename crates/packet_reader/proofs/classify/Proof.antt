@@ -1,8 +1,6 @@
 -- At each byte of the list the look-up computes, and elsewhere each test of it fails.
 -- Assumes nothing.
-use borrow.Author.Needs.{needs}
-use mathlib.Core.Path.{_≡_, refl, ap, sym, _∙_}
-use borrow.Author.Tests.{le-leb, lt-leb, lt-ltb, le-ltb, eq-eqb, ne-eqb}
+use borrow.Author.Tests.{ne-eqb}
 use Rattle.symbol.specs.Symbols.{isTwelve}
 use Rattle.packet_rules.specs.Symbols.{controlKind, kindOf}
 use Rattle.packet_reader.specs.Classes.{classOf}

@@ -1,6 +1,6 @@
 -- By the test of the rule; then the code's way through the step is what the rules say.
 -- Assumes nothing.
-use mathlib.Core.Path.{_≡_, sym, ap, _∙_}
+use mathlib.Core.Path.{sym, ap, _∙_}
 use borrow.Author.Needs.{needs}
 use Rattle.packet_rules.specs.Answers.{stepSays}
 use Rattle.packet_reader.proofs.Agree.{agree, ill-formed}

@@ -1,8 +1,8 @@
 -- By what is due.
 -- Assumes nothing.
 use borrow.Author.Needs.{needs}
-use mathlib.Core.Path.{_≡_, refl, ap, sym, _∙_}
-use borrow.Author.Tests.{le-leb, lt-leb, lt-ltb, le-ltb, eq-eqb, ne-eqb}
+use mathlib.Core.Path.{sym, _∙_}
+use borrow.Author.Tests.{eq-eqb, ne-eqb}
 use Rattle.packet_sequences.specs.Sequences.{dueOf}
 use Rattle.packet_sequences.proofs.due_byte.Statement.{statement}
 use Rattle.packet_sequences.proofs.due_byte.Tie as tie

@@ -1,7 +1,6 @@
 -- By the symbol's kind.
 -- Assumes nothing.
 use borrow.Author.Needs.{needs}
-use mathlib.Core.Path.{_≡_, refl, ap, sym, _∙_}
 use Rattle.packet_sequences.specs.Sequences.{seqOf}
 use Rattle.packet_sequences.proofs.in_sequence.Statement.{statement}
 use Rattle.packet_sequences.proofs.in_sequence.Tie as tie

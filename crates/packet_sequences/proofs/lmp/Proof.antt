@@ -1,8 +1,6 @@
 -- By the number, then by type and parameter.
 -- Assumes nothing.
-use borrow.Author.Needs.{needs}
-use mathlib.Core.Path.{_≡_, refl, ap, sym, _∙_}
-use borrow.Author.Tests.{le-leb, lt-leb, lt-ltb, le-ltb, eq-eqb, ne-eqb}
+use borrow.Author.Tests.{lt-ltb, le-ltb, eq-eqb, ne-eqb}
 use Rattle.packet_sequences.proofs.lmp.Statement.{statement}
 use Rattle.packet_sequences.proofs.lmp.Tie as tie
 

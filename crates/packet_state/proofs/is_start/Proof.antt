@@ -1,6 +1,6 @@
 -- The register is compared with the start value.
 -- Assumes nothing.
-use mathlib.Core.Path.{_≡_, ap}
+use mathlib.Core.Path.{ap}
 use Prim.Native.Nat.{ℕ}
 use lib.Dec.{eqb}
 use borrow.Author.Needs.{needs}

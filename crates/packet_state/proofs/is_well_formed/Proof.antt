@@ -1,8 +1,7 @@
 -- By the four parts of the rule, one after the other.
 -- Assumes nothing.
 use borrow.Author.Needs.{needs}
-use mathlib.Core.Path.{_≡_, refl, ap, sym, _∙_}
-use borrow.Author.Tests.{le-leb, lt-leb, lt-ltb, le-ltb, eq-eqb, ne-eqb}
+use mathlib.Core.Path.{sym, _∙_}
 use Rattle.packet_rules.specs.State.{wellFormed}
 use Rattle.packet_state.proofs.is_well_formed.Statement.{statement}
 use Rattle.packet_state.proofs.is_well_formed.Tie as tie

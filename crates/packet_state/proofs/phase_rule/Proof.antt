@@ -1,8 +1,7 @@
 -- By the phase.
 -- Assumes nothing.
 use borrow.Author.Needs.{needs}
-use mathlib.Core.Path.{_≡_, refl, ap, sym, _∙_}
-use borrow.Author.Tests.{le-leb, lt-leb, lt-ltb, le-ltb, eq-eqb, ne-eqb}
+use borrow.Author.Tests.{lt-ltb, le-ltb}
 use Rattle.packet_state.proofs.phase_rule.Statement.{statement}
 use Rattle.packet_state.proofs.phase_rule.Tie as tie
 

@@ -1,8 +1,7 @@
 -- By the open data packet; outside packets by the byte.
 -- Assumes nothing.
 use borrow.Author.Needs.{needs}
-use mathlib.Core.Path.{_≡_, refl, ap, sym, _∙_}
-use borrow.Author.Tests.{le-leb, lt-leb, lt-ltb, le-ltb, eq-eqb, ne-eqb}
+use borrow.Author.Tests.{eq-eqb, ne-eqb}
 use Rattle.packet_turns.proofs.data_byte.Statement.{statement}
 use Rattle.packet_turns.proofs.data_byte.Tie as tie
 

@@ -1,8 +1,7 @@
 -- By whether a packet is open and has a byte.
 -- Assumes nothing.
 use borrow.Author.Needs.{needs}
-use mathlib.Core.Path.{_≡_, refl, ap, sym, _∙_}
-use borrow.Author.Tests.{le-leb, lt-leb, lt-ltb, le-ltb, eq-eqb, ne-eqb}
+use mathlib.Core.Path.{sym, _∙_}
 use Rattle.packet_turns.proofs.end_symbol.Statement.{statement}
 use Rattle.packet_turns.proofs.end_symbol.Tie as tie
 

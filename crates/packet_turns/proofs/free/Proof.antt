@@ -1,8 +1,7 @@
 -- By the symbol's kind.
 -- Assumes nothing.
 use borrow.Author.Needs.{needs}
-use mathlib.Core.Path.{_≡_, refl, ap, sym, _∙_}
-use borrow.Author.Tests.{le-leb, lt-leb, lt-ltb, le-ltb, eq-eqb, ne-eqb}
+use mathlib.Core.Path.{sym, _∙_}
 use Rattle.packet_turns.specs.Turns.{freeOf}
 use Rattle.packet_turns.proofs.free.Statement.{statement}
 use Rattle.packet_turns.proofs.free.Tie as tie

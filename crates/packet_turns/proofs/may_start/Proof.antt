@@ -1,7 +1,6 @@
 -- By the symbol that opens.
 -- Assumes nothing.
 use borrow.Author.Needs.{needs}
-use mathlib.Core.Path.{_≡_, refl, ap, sym, _∙_}
 use Rattle.packet_turns.proofs.may_start.Statement.{statement}
 use Rattle.packet_turns.proofs.may_start.Tie as tie
 

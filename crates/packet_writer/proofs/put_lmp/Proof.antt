@@ -15,7 +15,7 @@ use Rattle.symbol.specs.declared.Symbol.{Symbol}
 use Rattle.character_rules.specs.Demand.{canWrite}
 use Rattle.packet_rules.specs.Line.{SLP}
 use Rattle.packet_rules.proofs.Packets.{byte-can}
-use Rattle.packet_writer.specs.Writing.{symbolOf, lmpSymbols, Wrote}
+use Rattle.packet_writer.specs.Writing.{symbolOf, lmpSymbols}
 use Rattle.packet_writer.proofs.Parts.{data-number}
 use Rattle.packet_writer.proofs.put_lmp.Statement.{statement}
 use Rattle.packet_writer.proofs.put_lmp.Tie as tie

@@ -1,8 +1,8 @@
 -- The three parts, one after the other, are the packet.
 -- Assumes nothing.
-use mathlib.Core.Path.{_≡_, ap, sym, _∙_}
-use mathlib.Core.List.{List, [], _∷_, _++_, map}
-use Prim.Native.Nat.{ℕ, _+_, _≤_, _<_}
+use mathlib.Core.Path.{_≡_, ap, _∙_}
+use mathlib.Core.List.{map}
+use Prim.Native.Nat.{ℕ, _+_, _<_}
 use native.Mathlib.Omega.{arith}
 use borrow.Author.Needs.{needs}
 use lib.ListN.{length}
@@ -10,7 +10,6 @@ use Rattle.symbol.specs.Symbols.{dataSymbol}
 use Rattle.crc.specs.Crc16.{crcStart, crcFrom}
 use Rattle.crc.proofs.Laws.{crc-lt}
 use Rattle.packet_writer.specs.declared.Place.{Place}
-use Rattle.packet_writer.specs.Writing.{symbolOf}
 use Rattle.packet_writer.proofs.Laws.{wrote-more, wrote-disparity}
 use Rattle.packet_writer.proofs.Turns.{length-map}
 use Rattle.packet_writer.proofs.Parts.{closing-is, head-can, tail-can, packet-is}

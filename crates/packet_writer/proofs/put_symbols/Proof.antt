@@ -1,18 +1,15 @@
 -- After i turns the first i symbols are written.
 -- Assumes nothing.
-use mathlib.Core.Path.{_≡_, refl, ap, sym, _∙_, subst}
-use mathlib.Core.List.{List, [], _∷_, map}
-use Prim.Native.Nat.{ℕ, _+_, _≤_, _<_, _-_}
+use mathlib.Core.Path.{_≡_, refl, sym, _∙_, subst}
+use mathlib.Core.List.{map}
+use Prim.Native.Nat.{_≤_, _<_, _-_}
 use native.Mathlib.Omega.{arith}
 use borrow.Author.Needs.{needs}
-use lib.Dec.{T, ltb, lt→ltb}
-use lib.ListN.{length, getD, take}
+use lib.Dec.{T}
+use lib.ListN.{length, take}
 use lib.Seq.{take-all}
-use Rattle.laws.proofs.Bools.{and-both}
-use Rattle.symbol.specs.Symbols.{dataSymbol}
 use Rattle.symbol.specs.declared.Symbol.{Symbol}
 use Rattle.character_rules.specs.Demand.{canWrite}
-use Rattle.packet_writer.specs.declared.Place.{Place}
 use Rattle.packet_writer.specs.Writing.{symbolOf, Wrote}
 use Rattle.packet_writer.proofs.Laws.{wrote-none}
 use Rattle.packet_writer.proofs.Turns.{place-at, place-disparity, one-turn, all-at}

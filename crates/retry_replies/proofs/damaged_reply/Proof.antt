@@ -1,7 +1,6 @@
 -- Refused or not, the sender that was given comes back, with the refusal's number.
 -- Assumes nothing.
 use borrow.Author.Needs.{needs}
-use mathlib.Core.Path.{refl, sym, _∙_}
 use Rattle.retry_rules.specs.Refused.{refusedSender}
 use Rattle.retry_rules.specs.Reply.{senderChecks, damagedReplyOf}
 use Rattle.retry_parts.proofs.Calls.{answers-number}

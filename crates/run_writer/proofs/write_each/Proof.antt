@@ -1,7 +1,7 @@
 -- What is stored and what remains make the whole run's characters.
 -- Assumes nothing.
-use mathlib.Core.Path.{_≡_, refl, sym, _∙_, ap, subst}
-use Prim.Native.Nat.{ℕ, _≤_, _<_, _-_, _/_, _%_}
+use mathlib.Core.Path.{refl, sym, _∙_, ap, subst}
+use Prim.Native.Nat.{ℕ, _<_, _-_, _/_, _%_}
 use native.Mathlib.Omega.{arith}
 use lib.Dec.{eqb}
 use lib.ListN.{length, getD}

@@ -1,6 +1,6 @@
 -- The answer taken apart: how many characters and the closing disparity, or a refusal.
 -- Assumes nothing.
-use mathlib.Core.Path.{_≡_, refl, sym, ap, _∙_}
+use mathlib.Core.Path.{refl, sym, ap, _∙_}
 use lib.IntN.{ℤ}
 use Rattle.packet_rules.specs.Packets.{inPriority, writtenSays, packetWriting, packetOutput}
 use Rattle.host_rules.specs.Numbers.{markOf}

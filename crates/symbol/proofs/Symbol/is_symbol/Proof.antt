@@ -1,6 +1,5 @@
 -- Each way out by the tests that led there.
 -- Assumes nothing.
-use mathlib.Core.Path.{_∙_}
 use borrow.Author.Needs.{needs}
 use Rattle.symbol.proofs.Symbol.is_symbol.Statement.{statement}
 use Rattle.symbol.proofs.Symbol.is_symbol.Tie as tie

@@ -1,6 +1,5 @@
 -- Each way out by the tests that led there.
 -- Assumes nothing.
-use borrow.Author.Tests.{eq-eqb, ne-eqb}
 use borrow.Author.Needs.{needs}
 use Rattle.symbol.proofs.Symbol.opens_lmp.Statement.{statement}
 use Rattle.symbol.proofs.Symbol.opens_lmp.Tie as tie
