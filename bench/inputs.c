@@ -55,7 +55,7 @@ static unsigned beginning(unsigned start) {
 }
 
 /* A user byte; the CRC's register after it. */
-static uint16_t user_byte(uint16_t r) {
+static uint16_t one_byte(uint16_t r) {
   unsigned b = random_below(256);
   symbol(b);
   return crc_step(r, (uint8_t)b);
@@ -64,7 +64,7 @@ static uint16_t user_byte(uint16_t r) {
 static void priority(void) {
   unsigned opening = beginning(SPP), n = 1 + random_below(SIZE);
   uint16_t r = 0xFFFF;
-  while (n--) r = user_byte(r);
+  while (n--) r = one_byte(r);
   ending(opening, r);
 }
 
@@ -72,7 +72,7 @@ static void data(void) {
   unsigned opening = beginning(SDP), n = 64 + random_below(256);
   uint16_t r = 0xFFFF;
   while (n--) {
-    r = user_byte(r);
+    r = one_byte(r);
     if (!random_below(200)) priority();
     if (!random_below(200)) reply();
     if (!random_below(400)) idles();
