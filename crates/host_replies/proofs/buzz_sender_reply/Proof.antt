@@ -6,8 +6,8 @@ use Rattle.retry_rules.specs.Reply.{replyOf}
 use Rattle.host_rules.specs.Numbers.{markOf}
 use Rattle.host_calls.proofs.SenderLaws.{reply-refused, reply-done}
 use borrow.Author.Needs.{needs}
-use Rattle.host_sender.proofs.buzz_sender_reply.Statement.{statement}
-use Rattle.host_sender.proofs.buzz_sender_reply.Tie as tie
+use Rattle.host_replies.proofs.buzz_sender_reply.Statement.{statement}
+use Rattle.host_replies.proofs.buzz_sender_reply.Tie as tie
 
 sender-in-requires : tie.Need-sender-in-requires
 sender-in-requires c κs = search needs

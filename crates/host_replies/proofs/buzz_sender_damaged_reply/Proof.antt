@@ -5,8 +5,8 @@ use Rattle.retry_rules.specs.declared.Sender.{Sender}
 use Rattle.retry_rules.specs.Reply.{damagedReplyOf}
 use Rattle.host_calls.proofs.SenderLaws.{damaged-refused, damaged-done}
 use borrow.Author.Needs.{needs}
-use Rattle.host_sender.proofs.buzz_sender_damaged_reply.Statement.{statement}
-use Rattle.host_sender.proofs.buzz_sender_damaged_reply.Tie as tie
+use Rattle.host_replies.proofs.buzz_sender_damaged_reply.Statement.{statement}
+use Rattle.host_replies.proofs.buzz_sender_damaged_reply.Tie as tie
 
 sender-in-requires : tie.Need-sender-in-requires
 sender-in-requires c κs = search needs

@@ -8,8 +8,8 @@ use Rattle.host_rules.specs.Numbers.{markOf}
 use Rattle.host_calls.specs.ReceiverCalls.{Arrives}
 use Rattle.host_calls.proofs.ReceiverLaws.{arrival-refused, arrival-done}
 use borrow.Author.Needs.{needs}
-use Rattle.host_receiver.proofs.buzz_receiver_arrival.Statement.{statement}
-use Rattle.host_receiver.proofs.buzz_receiver_arrival.Tie as tie
+use Rattle.host_arrivals.proofs.buzz_receiver_arrival.Statement.{statement}
+use Rattle.host_arrivals.proofs.buzz_receiver_arrival.Tie as tie
 
 receiver-in-requires : tie.Need-receiver-in-requires
 receiver-in-requires c κs = search needs

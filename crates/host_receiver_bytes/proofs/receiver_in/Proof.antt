@@ -2,8 +2,8 @@
 -- Assumes nothing.
 use Rattle.host_retry_rules.specs.ReceiverBytes.{receiverIn}
 use borrow.Author.Needs.{needs}
-use Rattle.host_receiver.proofs.state.receiver_in.Statement.{statement}
-use Rattle.host_receiver.proofs.state.receiver_in.Tie as tie
+use Rattle.host_receiver_bytes.proofs.receiver_in.Statement.{statement}
+use Rattle.host_receiver_bytes.proofs.receiver_in.Tie as tie
 
 array-read-two : tie.Need-array-read-two
 array-read-two c = search needs

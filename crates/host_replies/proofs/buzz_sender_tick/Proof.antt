@@ -5,8 +5,8 @@ use Rattle.retry_rules.specs.Tick.{tickOf}
 use Rattle.host_calls.specs.SenderCalls.{Ticks}
 use Rattle.host_calls.proofs.SenderLaws.{tick-refused, tick-done}
 use borrow.Author.Needs.{needs}
-use Rattle.host_sender.proofs.buzz_sender_tick.Statement.{statement}
-use Rattle.host_sender.proofs.buzz_sender_tick.Tie as tie
+use Rattle.host_replies.proofs.buzz_sender_tick.Statement.{statement}
+use Rattle.host_replies.proofs.buzz_sender_tick.Tie as tie
 
 sender-in-requires : tie.Need-sender-in-requires
 sender-in-requires c κs = search needs

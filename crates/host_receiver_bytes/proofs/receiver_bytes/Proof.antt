@@ -3,8 +3,8 @@
 use mathlib.Core.Path.{refl}
 use Rattle.host_retry_rules.specs.ReceiverBytes.{receiverBytes}
 use borrow.Author.Needs.{needs}
-use Rattle.host_receiver.proofs.state.receiver_bytes.Statement.{statement}
-use Rattle.host_receiver.proofs.state.receiver_bytes.Tie as tie
+use Rattle.host_receiver_bytes.proofs.receiver_bytes.Statement.{statement}
+use Rattle.host_receiver_bytes.proofs.receiver_bytes.Tie as tie
 
 cast-t4 : tie.Need-cast-t4
 cast-t4 c = search needs
