@@ -1,7 +1,7 @@
 // Captures: ten-bit characters packed into bytes. Their number, whether one is legal, and the character at a place.
 ghost use Rattle.std.specs.Prelude.{◌≡◌, ◌+◌, ◌*◌, ◌/◌, ◌%◌, ◌^◌, get_or};
-ghost use Rattle.capture_rules.specs.Capture.{charactersOf, legal};
-ghost use Rattle.capture_rules.specs.Calls.{says, countSays, characterSays};
+ghost use Rattle.capture_rules.specs.Capture.{characters_of, legal};
+ghost use Rattle.capture_rules.specs.Calls.{says, count_says, character_says};
 
 use capture_rules::Answer;
 
@@ -42,7 +42,7 @@ pub fn ten_bits(first: u8, second: u8, after: usize) -> usize
 
 // The ten bits from bit 10 i on, which lie in two bytes; 0 past the last character.
 pub fn character_of(capture: &[u8], i: usize) -> u16
-    ensures { result ≡ get_or (charactersOf capture.now) i 0 }
+    ensures { result ≡ get_or (characters_of capture.now) i 0 }
 {
     if capture.len() <= i {
         return 0;
@@ -56,7 +56,7 @@ pub fn character_of(capture: &[u8], i: usize) -> u16
 
 // How many characters a capture holds.
 pub fn character_count(capture: &[u8]) -> Answer
-    ensures { says result ≡ countSays capture.now }
+    ensures { says result ≡ count_says capture.now }
 {
     if !is_legal(capture) {
         return Answer::Refused(refusal::BAD_CAPTURE);
@@ -66,7 +66,7 @@ pub fn character_count(capture: &[u8]) -> Answer
 
 // The character at a place.
 pub fn character_at(capture: &[u8], place: usize) -> Answer
-    ensures { says result ≡ characterSays capture.now place }
+    ensures { says result ≡ character_says capture.now place }
 {
     if !is_legal(capture) {
         return Answer::Refused(refusal::BAD_CAPTURE);

@@ -4,6 +4,6 @@ use mathlib.Core.Path.{◌≡◌, refl}
 use mathlib.Core.Bool.{Bool, true, false, ◌&&◌}
 
 -- a test more, before or after the others
-pub and-and : (a b c : Bool) → (a && b) && c ≡ a && (b && c)
-and-and true b c = refl
-and-and false b c = refl
+pub and_and : (a b c : Bool) → (a && b) && c ≡ a && (b && c)
+and_and true b c = refl
+and_and false b c = refl

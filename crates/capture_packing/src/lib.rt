@@ -1,8 +1,8 @@
 // Packing: ten-bit characters into bytes, most significant bit first.
 ghost use Rattle.std.specs.Prelude.{◌≡◌, true, ◌++◌, ◌≤◌, ◌<◌, length, get_or, drop};
 ghost use Rattle.laws.specs.Groups.{all_below};
-ghost use Rattle.capture_rules.specs.Capture.{byte_count, packOf};
-ghost use Rattle.capture_rules.specs.Calls.{says, packSays, packLeaves};
+ghost use Rattle.capture_rules.specs.Capture.{byte_count, pack_of};
+ghost use Rattle.capture_rules.specs.Calls.{says, pack_says, pack_leaves};
 
 use capture_rules::Answer;
 
@@ -28,7 +28,7 @@ fn character_or_zero(characters: &[u16], i: usize) -> u32
 // The eight bits from bit 8 k on, which lie in two characters.
 fn byte_of(characters: &[u16], k: usize) -> u8
     requires { (all_below 1024 characters.now ≡ true) × (length characters.now ≤ 52428) × (k < byte_count (length characters.now)) }
-    ensures { result ≡ get_or (packOf characters.now) k 0 }
+    ensures { result ≡ get_or (pack_of characters.now) k 0 }
 {
     let i = 8 * k / 10;
     let two = character_or_zero(characters, i) * 1024 + character_or_zero(characters, i + 1);
@@ -50,7 +50,7 @@ fn in_range(characters: &[u16]) -> bool
 
 fn store_bytes(characters: &[u16], n: usize, out: &mut [u8])
     requires { (all_below 1024 characters.now ≡ true) × (length characters.now ≤ 52428) × (n ≡ byte_count (length characters.now)) × (n ≤ length out.old) }
-    ensures { out.new ≡ packOf characters.now ++ drop n out.old }
+    ensures { out.new ≡ pack_of characters.now ++ drop n out.old }
 {
     let mut k = 0;
     while k < n {
@@ -61,7 +61,7 @@ fn store_bytes(characters: &[u16], n: usize, out: &mut [u8])
 
 // Packs characters into the front of `out`; answers the number of bytes.
 pub fn pack(characters: &[u16], out: &mut [u8]) -> Answer
-    ensures { (says result ≡ packSays characters.now (length out.old)) × (out.new ≡ packLeaves characters.now out.old) }
+    ensures { (says result ≡ pack_says characters.now (length out.old)) × (out.new ≡ pack_leaves characters.now out.old) }
 {
     if MOST_CHARACTERS < characters.len() {
         return Answer::Refused(refusal::BAD_CAPTURE);

@@ -17,9 +17,9 @@ has_value : Option ℕ → Bool
 has_value none = false
 has_value (some n) = true
 
-pub says-one : (a b : Answer) → says a ≡ says b → a ≡ b
+pub says_one : (a b : Answer) → says a ≡ says b → a ≡ b
 unfolding value_of has_value
-says-one (Number m) (Number n) e = ap (λ (s : Said). Number (value_of s.number)) e
-says-one (Number m) (Refused n) e = absurd (subst (λ (s : Said). T (has_value s.number)) e tt)
-says-one (Refused m) (Number n) e = absurd (subst (λ (s : Said). T (has_value s.number)) (sym e) tt)
-says-one (Refused m) (Refused n) e = ap (λ (s : Said). Refused s.refusal) e
+says_one (Number m) (Number n) e = ap (λ (s : Said). Number (value_of s.number)) e
+says_one (Number m) (Refused n) e = absurd (subst (λ (s : Said). T (has_value s.number)) e tt)
+says_one (Refused m) (Number n) e = absurd (subst (λ (s : Said). T (has_value s.number)) (sym e) tt)
+says_one (Refused m) (Refused n) e = ap (λ (s : Said). Refused s.refusal) e

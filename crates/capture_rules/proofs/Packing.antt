@@ -9,57 +9,57 @@ use native.Mathlib.Omega.{arith}
 use lib.Dec.{T, eqb, eqb→eq, ltb, leb, leb→le, le→leb, T_not, not_T}
 use lib.ListN.{length, drop, replicate, length-append, length-drop, length-replicate, take-append-drop}
 use lib.Seq.{take_all, drop_at}
-use Rattle.laws.specs.Groups.{all_below, allZero, bits_of, numbers}
-use Rattle.laws.proofs.Cases.{by-test}
+use Rattle.laws.specs.Groups.{all_below, all_zero, bits_of, numbers}
+use Rattle.laws.proofs.Cases.{by_test}
 use Rattle.laws.proofs.Bools.{and_left, and_right, and_both}
-use Rattle.laws.proofs.Groups.{all_append, all_replicate, length-bitsOf, bitsOf-below, length-numbers, bitsOf-numbers, numbers-bitsOf, numbers-below}
-use Rattle.laws.proofs.Zeros.{zeros-line}
-use Rattle.capture_rules.specs.Capture.{Packed, characterCount, charactersOf, closingBits, legal, byte_count, packOf}
+use Rattle.laws.proofs.Groups.{all_append, all_replicate, length_bits_of, bits_of_below, length_numbers, bits_of_numbers, numbers_bits_of, numbers_below}
+use Rattle.laws.proofs.Zeros.{zeros_line}
+use Rattle.capture_rules.specs.Capture.{Packed, character_count, characters_of, closing_bits, legal, byte_count, pack_of}
 
 -- the characters' bits and the zeros to the end of the byte
 abbrev filled : List ℕ → List ℕ
 filled cs = bits_of 10 cs ++ replicate (8 * byte_count (length cs) - 10 * length cs) 0
 
-length-filled : (cs : List ℕ) → length (filled cs) ≡ 8 * byte_count (length cs)
-length-filled cs = simp (length-append, length-bitsOf, length-replicate) (omega arith)
+length_filled : (cs : List ℕ) → length (filled cs) ≡ 8 * byte_count (length cs)
+length_filled cs = simp (length-append, length_bits_of, length-replicate) (omega arith)
 
-filled-below : (cs : List ℕ) → T (all_below 2 (filled cs))
-filled-below cs =
-    all_append (λ (b : ℕ). ltb b 2) (bits_of 10 cs) _ (bitsOf-below 10 cs)
+filled_below : (cs : List ℕ) → T (all_below 2 (filled cs))
+filled_below cs =
+    all_append (λ (b : ℕ). ltb b 2) (bits_of 10 cs) _ (bits_of_below 10 cs)
     (all_replicate (λ (b : ℕ). ltb b 2) (8 * byte_count (length cs) - 10 * length cs) 0 tt)
 
 -- the number of bytes
-pub pack-length : (cs : List ℕ) → length (packOf cs) ≡ byte_count (length cs)
-unfolding packOf
-pack-length cs = length-numbers 8 (byte_count (length cs)) (filled cs)
+pub pack_length : (cs : List ℕ) → length (pack_of cs) ≡ byte_count (length cs)
+unfolding pack_of
+pack_length cs = length_numbers 8 (byte_count (length cs)) (filled cs)
 
-pub pack-bytes : (cs : List ℕ) → T (all_below 256 (packOf cs))
-unfolding packOf
-pack-bytes cs = let l = length-filled cs in numbers-below 8 (byte_count (length cs)) (filled cs) (filled-below cs) (omega arith)
+pub pack_bytes : (cs : List ℕ) → T (all_below 256 (pack_of cs))
+unfolding pack_of
+pack_bytes cs = let l = length_filled cs in numbers_below 8 (byte_count (length cs)) (filled cs) (filled_below cs) (omega arith)
 
-pack-line : (cs : List ℕ) → bits_of 8 (packOf cs) ≡ filled cs
-unfolding packOf
-pack-line cs =
-    let l = length-filled cs in
-    bitsOf-numbers 8 (byte_count (length cs)) (filled cs) (filled-below cs) (omega arith) ∙ take_all (8 * byte_count (length cs)) (filled cs) (omega arith)
+pack_line : (cs : List ℕ) → bits_of 8 (pack_of cs) ≡ filled cs
+unfolding pack_of
+pack_line cs =
+    let l = length_filled cs in
+    bits_of_numbers 8 (byte_count (length cs)) (filled cs) (filled_below cs) (omega arith) ∙ take_all (8 * byte_count (length cs)) (filled cs) (omega arith)
 
 -- what packing gives is the characters packed
-pub pack-packed : (cs : List ℕ) → Packed cs (packOf cs)
-pack-packed cs = record { closing = 8 * byte_count (length cs) - 10 * length cs; fewer = omega arith; line = pack-line cs }
+pub pack_packed : (cs : List ℕ) → Packed cs (pack_of cs)
+pack_packed cs = record { closing = 8 * byte_count (length cs) - 10 * length cs; fewer = omega arith; line = pack_line cs }
 
 -- no characters fill 5 m + 1 bytes and leave fewer than eight bits over
-never-one : (l n c : ℕ) → 8 * l ≡ 10 * n + c → c < 8 → l % 5 ≡ 1 → ⊥
-never-one l n c e h r =
+never_one : (l n c : ℕ) → 8 * l ≡ 10 * n + c → c < 8 → l % 5 ≡ 1 → ⊥
+never_one l n c e h r =
     let q : l ≡ 5 * (l / 5) + 1 = omega arith in
-    by-test (leb n (4 * (l / 5)))
+    by_test (leb n (4 * (l / 5)))
     (λ t. let k = leb-true n (4 * (l / 5)) t in omega arith)
     (λ f. let k = leb-false n (4 * (l / 5)) f in omega arith)
 
 -- any other number of bytes leaves fewer than eight bits over
-fewer-over : (l : ℕ) → (l % 5 ≡ 1 → ⊥) → 8 * l - 10 * characterCount l < 8
-fewer-over l h = go (l % 5) refl
+fewer_over : (l : ℕ) → (l % 5 ≡ 1 → ⊥) → 8 * l - 10 * character_count l < 8
+fewer_over l h = go (l % 5) refl
   where
-    go : (r : ℕ) → l % 5 ≡ r → 8 * l - 10 * characterCount l < 8
+    go : (r : ℕ) → l % 5 ≡ r → 8 * l - 10 * character_count l < 8
     go zero e = let q : 8 * l / 10 ≡ 4 * (l / 5) = omega arith in omega arith
     go (suc zero) e = absurd (h e)
     go (suc (suc zero)) e = let q : 8 * l / 10 ≡ 4 * (l / 5) + 1 = omega arith in omega arith
@@ -75,98 +75,98 @@ abbrev whole : List ℕ → Bool
 whole bytes = not (eqb (length bytes % 5) 1)
 
 abbrev clean : List ℕ → Bool
-clean bytes = allZero (closingBits bytes)
+clean bytes = all_zero (closing_bits bytes)
 
 module _ (cs bytes : List ℕ) (p : Packed cs bytes) where
   -- the lengths of characters packed
-  pub packed-sizes : 8 * length bytes ≡ 10 * length cs + p.closing
-  packed-sizes =
-      sym (length-bitsOf 8 bytes) ∙ ap length p.line ∙ length-append (bits_of 10 cs) (replicate p.closing 0)
-      ∙ ap₂ ◌+◌ (length-bitsOf 10 cs) (length-replicate p.closing 0)
+  pub packed_sizes : 8 * length bytes ≡ 10 * length cs + p.closing
+  packed_sizes =
+      sym (length_bits_of 8 bytes) ∙ ap length p.line ∙ length-append (bits_of 10 cs) (replicate p.closing 0)
+      ∙ ap₂ ◌+◌ (length_bits_of 10 cs) (length-replicate p.closing 0)
 
-  pub packed-count : characterCount (length bytes) ≡ length cs
-  packed-count = let s = packed-sizes in let f = p.fewer in omega arith
+  pub packed_count : character_count (length bytes) ≡ length cs
+  packed_count = let s = packed_sizes in let f = p.fewer in omega arith
 
   -- no other bytes are these characters packed
-  pub packed-only : T (all_below 256 bytes) → bytes ≡ packOf cs
-  unfolding packOf
-  packed-only t =
-      let s = packed-sizes in let f = p.fewer in
+  pub packed_only : T (all_below 256 bytes) → bytes ≡ pack_of cs
+  unfolding pack_of
+  packed_only t =
+      let s = packed_sizes in let f = p.fewer in
       let n : length bytes ≡ byte_count (length cs) = omega arith in
       let z : p.closing ≡ 8 * byte_count (length cs) - 10 * length cs = omega arith in
-      sym (numbers-bitsOf 8 bytes [] t)
+      sym (numbers_bits_of 8 bytes [] t)
       ∙ ap₂ (numbers 8) n (append-nil (bits_of 8 bytes) ∙ p.line ∙ ap (λ (j : ℕ). bits_of 10 cs ++ replicate j 0) z)
 
   -- and no other characters are packed to these bytes
-  pub packed-characters : T (all_below 1024 cs) → charactersOf bytes ≡ cs
-  unfolding charactersOf
-  packed-characters t = ap₂ (numbers 10) packed-count p.line ∙ numbers-bitsOf 10 cs (replicate p.closing 0) t
+  pub packed_characters : T (all_below 1024 cs) → characters_of bytes ≡ cs
+  unfolding characters_of
+  packed_characters t = ap₂ (numbers 10) packed_count p.line ∙ numbers_bits_of 10 cs (replicate p.closing 0) t
 
-  packed-zeros : T (allZero (closingBits bytes))
-  unfolding closingBits
-  packed-zeros =
-      subst (λ (l : List ℕ). T (allZero l))
-      (sym (ap₂ drop (ap (λ (n : ℕ). 10 * n) packed-count) p.line ∙ drop_at (bits_of 10 cs) (replicate p.closing 0) (10 * length cs) (length-bitsOf 10 cs)))
+  packed_zeros : T (all_zero (closing_bits bytes))
+  unfolding closing_bits
+  packed_zeros =
+      subst (λ (l : List ℕ). T (all_zero l))
+      (sym (ap₂ drop (ap (λ (n : ℕ). 10 * n) packed_count) p.line ∙ drop_at (bits_of 10 cs) (replicate p.closing 0) (10 * length cs) (length_bits_of 10 cs)))
       (all_replicate (eqb 0) p.closing 0 tt)
 
   -- characters packed into at most 65,535 bytes are a legal capture
-  pub packed-legal : length bytes ≤ 65535 → T (legal bytes)
+  pub packed_legal : length bytes ≤ 65535 → T (legal bytes)
   unfolding legal
-  packed-legal h =
+  packed_legal h =
       and_both (short bytes) (whole bytes && clean bytes) (le→leb (length bytes) 65535 h)
       (and_both (whole bytes) (clean bytes) (not_T (eqb (length bytes % 5) 1)
-      (λ t. never-one (length bytes) (length cs) p.closing packed-sizes p.fewer (eqb→eq (length bytes % 5) 1 t))) packed-zeros)
+      (λ t. never_one (length bytes) (length cs) p.closing packed_sizes p.fewer (eqb→eq (length bytes % 5) 1 t))) packed_zeros)
 
 module _ (bytes : List ℕ) (l : T (legal bytes)) where
-  pub legal-size : length bytes ≤ 65535
+  pub legal_size : length bytes ≤ 65535
   unfolding legal
-  legal-size = leb→le (length bytes) 65535 (and_left (short bytes) (whole bytes && clean bytes) l)
+  legal_size = leb→le (length bytes) 65535 (and_left (short bytes) (whole bytes && clean bytes) l)
 
-  pub legal-length : length bytes % 5 ≡ 1 → ⊥
+  pub legal_length : length bytes % 5 ≡ 1 → ⊥
   unfolding legal
-  legal-length e =
+  legal_length e =
       T_not (eqb (length bytes % 5) 1) (and_left (whole bytes) (clean bytes) (and_right (short bytes) (whole bytes && clean bytes) l))
       (subst (λ (n : ℕ). T (eqb n 1)) (sym e) tt)
 
-  legal-zeros : T (allZero (closingBits bytes))
+  legal_zeros : T (all_zero (closing_bits bytes))
   unfolding legal
-  legal-zeros = and_right (whole bytes) (clean bytes) (and_right (short bytes) (whole bytes && clean bytes) l)
+  legal_zeros = and_right (whole bytes) (clean bytes) (and_right (short bytes) (whole bytes && clean bytes) l)
 
-  closing-line : closingBits bytes ≡ replicate (8 * length bytes - 10 * characterCount (length bytes)) 0
-  unfolding closingBits
-  closing-line =
-      zeros-line (closingBits bytes) legal-zeros ∙ ap (λ (n : ℕ). replicate n 0) (length-drop (10 * characterCount (length bytes)) (bits_of 8 bytes)
-      ∙ ap (λ (n : ℕ). n - 10 * characterCount (length bytes)) (length-bitsOf 8 bytes))
+  closing_line : closing_bits bytes ≡ replicate (8 * length bytes - 10 * character_count (length bytes)) 0
+  unfolding closing_bits
+  closing_line =
+      zeros_line (closing_bits bytes) legal_zeros ∙ ap (λ (n : ℕ). replicate n 0) (length-drop (10 * character_count (length bytes)) (bits_of 8 bytes)
+      ∙ ap (λ (n : ℕ). n - 10 * character_count (length bytes)) (length_bits_of 8 bytes))
 
   -- a legal capture is its characters packed
-  pub legal-packed : Packed (charactersOf bytes) bytes
-  unfolding charactersOf closingBits
-  legal-packed =
-      let n = characterCount (length bytes) in
-      let b = length-bitsOf 8 bytes in
+  pub legal_packed : Packed (characters_of bytes) bytes
+  unfolding characters_of closing_bits
+  legal_packed =
+      let n = character_count (length bytes) in
+      let b = length_bits_of 8 bytes in
       record {
         closing = 8 * length bytes - 10 * n;
-        fewer = fewer-over (length bytes) legal-length;
-        line = sym (take-append-drop (10 * n) (bits_of 8 bytes)) ∙ ap₂ ◌++◌ (sym (bitsOf-numbers 10 n (bits_of 8 bytes) (bitsOf-below 8 bytes) (omega arith))) closing-line;
+        fewer = fewer_over (length bytes) legal_length;
+        line = sym (take-append-drop (10 * n) (bits_of 8 bytes)) ∙ ap₂ ◌++◌ (sym (bits_of_numbers 10 n (bits_of 8 bytes) (bits_of_below 8 bytes) (omega arith))) closing_line;
       }
 
 -- THE LAWS. Unpacking what was packed gives the characters again
-pub unpack-pack : (cs : List ℕ) → T (all_below 1024 cs) → charactersOf (packOf cs) ≡ cs
-unpack-pack cs t = packed-characters cs (packOf cs) (pack-packed cs) t
+pub unpack_pack : (cs : List ℕ) → T (all_below 1024 cs) → characters_of (pack_of cs) ≡ cs
+unpack_pack cs t = packed_characters cs (pack_of cs) (pack_packed cs) t
 
 -- packing the characters of a legal capture gives its bytes again
-pub pack-unpack : (bytes : List ℕ) → T (all_below 256 bytes) → T (legal bytes) → packOf (charactersOf bytes) ≡ bytes
-pack-unpack bytes t l = sym (packed-only (charactersOf bytes) bytes (legal-packed bytes l) t)
+pub pack_unpack : (bytes : List ℕ) → T (all_below 256 bytes) → T (legal bytes) → pack_of (characters_of bytes) ≡ bytes
+pack_unpack bytes t l = sym (packed_only (characters_of bytes) bytes (legal_packed bytes l) t)
 
 -- what is packed is a legal capture
-pub pack-legal : (cs : List ℕ) → length cs ≤ 52428 → T (legal (packOf cs))
-pack-legal cs h = let e = pack-length cs in packed-legal cs (packOf cs) (pack-packed cs) (omega arith)
+pub pack_legal : (cs : List ℕ) → length cs ≤ 52428 → T (legal (pack_of cs))
+pack_legal cs h = let e = pack_length cs in packed_legal cs (pack_of cs) (pack_packed cs) (omega arith)
 
 -- a capture's characters: their number, and that each is one
-pub characters-length : (bytes : List ℕ) → length (charactersOf bytes) ≡ characterCount (length bytes)
-unfolding charactersOf
-characters-length bytes = length-numbers 10 (characterCount (length bytes)) (bits_of 8 bytes)
+pub characters_length : (bytes : List ℕ) → length (characters_of bytes) ≡ character_count (length bytes)
+unfolding characters_of
+characters_length bytes = length_numbers 10 (character_count (length bytes)) (bits_of 8 bytes)
 
-pub characters-below : (bytes : List ℕ) → T (all_below 1024 (charactersOf bytes))
-unfolding charactersOf
-characters-below bytes = let b = length-bitsOf 8 bytes in numbers-below 10 (characterCount (length bytes)) (bits_of 8 bytes) (bitsOf-below 8 bytes) (omega arith)
+pub characters_below : (bytes : List ℕ) → T (all_below 1024 (characters_of bytes))
+unfolding characters_of
+characters_below bytes = let b = length_bits_of 8 bytes in numbers_below 10 (character_count (length bytes)) (bits_of 8 bytes) (bits_of_below 8 bytes) (omega arith)

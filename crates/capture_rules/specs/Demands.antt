@@ -1,7 +1,7 @@
 -- What is asked of any packer and unpacker of captures, whatever they are made of.
 use Rattle.std.specs.Prelude.{ℕ, ◌≤◌, ◌≡◌, List, T, length, take}
 use Rattle.laws.specs.Groups.{all_below}
-use Rattle.capture_rules.specs.Capture.{Packed, characterCount, legal, byte_count}
+use Rattle.capture_rules.specs.Capture.{Packed, character_count, legal, byte_count}
 use Rattle.capture_rules.specs.Calls.{Said, answered}
 
 -- a call: from what it reads and what stands in the lent output, what it answers and what it leaves there
@@ -28,5 +28,5 @@ pub record RoundTrip (pack unpack : Call) : Type 0 where
 
 -- and the other way: packing the characters of a legal capture gives its bytes again
 pub record SameCapture (pack unpack : Call) : Type 0 where
-  pub again : (capture room old : List ℕ) → T (all_below 256 capture) → T (legal capture) → characterCount (length capture) ≤ length room → length capture ≤ length old
-      → take (length capture) (pack.leaves (take (characterCount (length capture)) (unpack.leaves capture room)) old) ≡ capture
+  pub again : (capture room old : List ℕ) → T (all_below 256 capture) → T (legal capture) → character_count (length capture) ≤ length room → length capture ≤ length old
+      → take (length capture) (pack.leaves (take (character_count (length capture)) (unpack.leaves capture room)) old) ≡ capture

@@ -3,20 +3,20 @@
 use Rattle.std.specs.Prelude.{ℕ, ◌+◌, ◌-◌, Bool, true, false, not, cond, List, [], ◌∷◌, ltb, leb, length}
 use Rattle.refusal.specs.Order.{Check, check, outcome}
 use Rattle.capture_rules.specs.declared.Move.{Move}
-use Rattle.capture_rules.specs.Capture.{characterCount}
+use Rattle.capture_rules.specs.Capture.{character_count}
 use Rattle.capture_rules.specs.Calls.{Said, answered, refused, readable}
 
 -- the pane's rule
-abbrev pub isPlace : List ℕ → ℕ → Bool
-isPlace capture place = leb place (characterCount (length capture))
+abbrev pub is_place : List ℕ → ℕ → Bool
+is_place capture place = leb place (character_count (length capture))
 
 -- 8: the capture is not legal; 1: the pane breaks its rule
-unfoldable pub paneChecks : List ℕ → ℕ → List Check
-paneChecks capture place = readable capture ∷ check 1 (not (isPlace capture place)) ∷ []
+unfoldable pub pane_checks : List ℕ → ℕ → List Check
+pane_checks capture place = readable capture ∷ check 1 (not (is_place capture place)) ∷ []
 
 -- the place where the pane stands
-unfoldable pub placeSays : List ℕ → ℕ → Said
-placeSays capture place = outcome (paneChecks capture place) refused (answered place)
+unfoldable pub place_says : List ℕ → ℕ → Said
+place_says capture place = outcome (pane_checks capture place) refused (answered place)
 
 abbrev pub moved_to : ℕ → Move
 moved_to place = record { place = place; moved = true; refusal = 0 }
@@ -26,8 +26,8 @@ abbrev pub stayed : ℕ → ℕ → Move
 stayed place refusal = record { place = place; moved = false; refusal = refusal }
 
 -- one character forward, and one back
-unfoldable pub forwardFrom : List ℕ → ℕ → Move
-forwardFrom capture place = outcome (paneChecks capture place) (stayed place) (cond (ltb place (characterCount (length capture))) (moved_to (place + 1)) (stayed place 0))
+unfoldable pub forward_from : List ℕ → ℕ → Move
+forward_from capture place = outcome (pane_checks capture place) (stayed place) (cond (ltb place (character_count (length capture))) (moved_to (place + 1)) (stayed place 0))
 
-unfoldable pub backFrom : List ℕ → ℕ → Move
-backFrom capture place = outcome (paneChecks capture place) (stayed place) (cond (ltb 0 place) (moved_to (place - 1)) (stayed place 0))
+unfoldable pub back_from : List ℕ → ℕ → Move
+back_from capture place = outcome (pane_checks capture place) (stayed place) (cond (ltb 0 place) (moved_to (place - 1)) (stayed place 0))

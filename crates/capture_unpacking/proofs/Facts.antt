@@ -8,9 +8,9 @@ use lib.Dec.{T}
 use lib.ListN.{length, get_or, set, take, drop, length-set}
 use lib.Seq.{drop-drop, drop_at, length-take-le}
 use Rattle.laws.specs.Groups.{all_below}
-use Rattle.laws.proofs.Stores.{store-next, stored-all}
-use Rattle.capture_rules.specs.Capture.{characterCount, charactersOf}
-use Rattle.capture_rules.proofs.Packing.{characters-length}
+use Rattle.laws.proofs.Stores.{store_next, stored_all}
+use Rattle.capture_rules.specs.Capture.{character_count, characters_of}
+use Rattle.capture_rules.proofs.Packing.{characters_length}
 use Rattle.capture.proofs.Facts.{in_bytes}
 
 -- a result stored from the front of a list: one more, and four more
@@ -19,12 +19,12 @@ module _ (result old : List ℕ) where
   Front k = take k result ++ drop k old
 
   one_more : (k : ℕ) (xs : List ℕ) (v : ℕ) → k < length result → k < length old → xs ≡ Front k → v ≡ get_or result k 0 → set xs k v ≡ Front (k + 1)
-  one_more k xs v h g e f = ap₂ (λ (l : List ℕ) (n : ℕ). set l k n) e f ∙ store-next result old 0 k h g
+  one_more k xs v h g e f = ap₂ (λ (l : List ℕ) (n : ℕ). set l k n) e f ∙ store_next result old 0 k h g
 
-  four-more : (k : ℕ) (xs : List ℕ) (a b c d : ℕ) → k + 4 ≤ length result → k + 4 ≤ length old → xs ≡ Front k
+  four_more : (k : ℕ) (xs : List ℕ) (a b c d : ℕ) → k + 4 ≤ length result → k + 4 ≤ length old → xs ≡ Front k
       → a ≡ get_or result k 0 → b ≡ get_or result (k + 1) 0 → c ≡ get_or result (k + 2) 0 → d ≡ get_or result (k + 3) 0
       → set (set (set (set xs k a) (k + 1) b) (k + 2) c) (k + 3) d ≡ Front (k + 4)
-  four-more k xs a b c d h g e ea eb ec ed =
+  four_more k xs a b c d h g e ea eb ec ed =
       let two : k + 1 + 1 ≡ k + 2 = omega arith in
       let three : k + 2 + 1 ≡ k + 3 = omega arith in
       let four : k + 3 + 1 ≡ k + 4 = omega arith in
@@ -34,8 +34,8 @@ module _ (result old : List ℕ) where
       ∙ ap Front four
 
   -- past what is stored, all is as it was
-  pub past-front : (k n : ℕ) (xs : List ℕ) → k ≤ n → k ≤ length result → xs ≡ Front k → drop n xs ≡ drop n old
-  past-front k n xs h g e =
+  pub past_front : (k n : ℕ) (xs : List ℕ) → k ≤ n → k ≤ length result → xs ≡ Front k → drop n xs ≡ drop n old
+  past_front k n xs h g e =
       let cut : n ≡ k + (n - k) = omega arith in
       ap₂ drop cut e
       ∙ sym (drop-drop (n - k) k (Front k))
@@ -44,35 +44,35 @@ module _ (result old : List ℕ) where
       ∙ ap (λ (j : ℕ). drop j old) (sym cut)
 
   -- first k are stored, and then the others, up to all n
-  pub all-stored : (k i n : ℕ) (mid xs : List ℕ) → k ≤ n → i ≡ n → length result ≡ n → mid ≡ Front k → xs ≡ take i result ++ drop i mid
+  pub all_stored : (k i n : ℕ) (mid xs : List ℕ) → k ≤ n → i ≡ n → length result ≡ n → mid ≡ Front k → xs ≡ take i result ++ drop i mid
       → xs ≡ result ++ drop n old
-  all-stored k i n mid xs h e size m x =
+  all_stored k i n mid xs h e size m x =
       x
       ∙ ap (λ (j : ℕ). take j result ++ drop j mid) e
-      ∙ stored-all result mid n size
-      ∙ ap (λ (rest : List ℕ). result ++ rest) (past-front k n mid h (omega arith) m)
+      ∙ stored_all result mid n size
+      ∙ ap (λ (rest : List ℕ). result ++ rest) (past_front k n mid h (omega arith) m)
 
 -- the four characters of five bytes are stored
-module _ (bytes old : List ℕ) (t : T (all_below 256 bytes)) (g : ℕ) (h : g < characterCount (length bytes) / 4) (room : 4 * g + 4 ≤ length old) (xs : List ℕ)
-    (e : xs ≡ take (4 * g) (charactersOf bytes) ++ drop (4 * g) old) (same : length xs ≡ length old) (ys : List ℕ)
+module _ (bytes old : List ℕ) (t : T (all_below 256 bytes)) (g : ℕ) (h : g < character_count (length bytes) / 4) (room : 4 * g + 4 ≤ length old) (xs : List ℕ)
+    (e : xs ≡ take (4 * g) (characters_of bytes) ++ drop (4 * g) old) (same : length xs ≡ length old) (ys : List ℕ)
     (stored : ys ≡ set (set (set (set xs (4 * g) ((get_or bytes (5 * g) 0 * 256 + get_or bytes (5 * g + 1) 0) / 2 ^ 6 % 1024))
     (4 * g + 1) ((get_or bytes (5 * g + 1) 0 * 256 + get_or bytes (5 * g + 2) 0) / 2 ^ 4 % 1024))
     (4 * g + 2) ((get_or bytes (5 * g + 2) 0 * 256 + get_or bytes (5 * g + 3) 0) / 2 ^ 2 % 1024))
     (4 * g + 3) ((get_or bytes (5 * g + 3) 0 * 256 + get_or bytes (5 * g + 4) 0) / 2 ^ 0 % 1024)) where
   -- one of them
   one_of : (j after : ℕ) → j < 4 → 2 * j + after ≡ 6
-      → (get_or bytes (5 * g + j) 0 * 256 + get_or bytes (5 * g + (j + 1)) 0) / 2 ^ (after % 8) % 1024 ≡ get_or (charactersOf bytes) (4 * g + j) 0
+      → (get_or bytes (5 * g + j) 0 * 256 + get_or bytes (5 * g + (j + 1)) 0) / 2 ^ (after % 8) % 1024 ≡ get_or (characters_of bytes) (4 * g + j) 0
   one_of j after l s = in_bytes bytes t (4 * g + j) (5 * g + j) (5 * g + (j + 1)) after (omega arith) (omega arith) (omega arith) (omega arith)
 
-  pub four-stored : (ys ≡ take (4 * (g + 1)) (charactersOf bytes) ++ drop (4 * (g + 1)) old) × (length ys ≡ length old)
-  four-stored =
-      let long = characters-length bytes in
+  pub four_stored : (ys ≡ take (4 * (g + 1)) (characters_of bytes) ++ drop (4 * (g + 1)) old) × (length ys ≡ length old)
+  four_stored =
+      let long = characters_length bytes in
       let next : 4 * g + 4 ≡ 4 * (g + 1) = omega arith in (
-        stored ∙ four-more (charactersOf bytes) old (4 * g) xs _ _ _ _ (omega arith) room e
+        stored ∙ four_more (characters_of bytes) old (4 * g) xs _ _ _ _ (omega arith) room e
             (in_bytes bytes t (4 * g) (5 * g) (5 * g + 1) 6 (omega arith) refl (omega arith) (omega arith))
             (one_of 1 4 (omega arith) refl)
             (one_of 2 2 (omega arith) refl)
             (one_of 3 0 (omega arith) refl)
-            ∙ ap (λ (n : ℕ). take n (charactersOf bytes) ++ drop n old) next,
+            ∙ ap (λ (n : ℕ). take n (characters_of bytes) ++ drop n old) next,
         ap length stored ∙ simp length-set same,
       )

@@ -1,7 +1,7 @@
 // Unpacking: a capture's characters, four from five bytes.
 ghost use Rattle.std.specs.Prelude.{◌≡◌, ◌++◌, ◌+◌, ◌*◌, ◌/◌, ◌%◌, ◌^◌, ◌≤◌, length, take, drop, set};
-ghost use Rattle.capture_rules.specs.Capture.{characterCount, charactersOf};
-ghost use Rattle.capture_rules.specs.Calls.{says, unpackSays, unpackLeaves};
+ghost use Rattle.capture_rules.specs.Capture.{character_count, characters_of};
+ghost use Rattle.capture_rules.specs.Calls.{says, unpack_says, unpack_leaves};
 
 use capture::{character_of, is_legal, ten_bits};
 use capture_rules::Answer;
@@ -20,8 +20,8 @@ fn store_four(a: u8, b: u8, c: u8, d: u8, e: u8, i: usize, out: &mut [u16])
 
 // So many fours, each read before its first character is stored.
 fn store_fours(capture: &[u8], fours: usize, out: &mut [u16])
-    requires { (length capture.now ≤ 65535) × (4 * fours ≤ characterCount (length capture.now)) × (4 * fours ≤ length out.old) }
-    ensures { out.new ≡ take (4 * fours) (charactersOf capture.now) ++ drop (4 * fours) out.old }
+    requires { (length capture.now ≤ 65535) × (4 * fours ≤ character_count (length capture.now)) × (4 * fours ≤ length out.old) }
+    ensures { out.new ≡ take (4 * fours) (characters_of capture.now) ++ drop (4 * fours) out.old }
 {
     let mut g = 0;
     while g < fours {
@@ -38,8 +38,8 @@ fn store_fours(capture: &[u8], fours: usize, out: &mut [u16])
 
 // The fours, and then the last 0 to 3 characters.
 fn store_characters(capture: &[u8], n: usize, out: &mut [u16])
-    requires { (length capture.now ≤ 65535) × (n ≡ characterCount (length capture.now)) × (n ≤ length out.old) }
-    ensures { out.new ≡ charactersOf capture.now ++ drop n out.old }
+    requires { (length capture.now ≤ 65535) × (n ≡ character_count (length capture.now)) × (n ≤ length out.old) }
+    ensures { out.new ≡ characters_of capture.now ++ drop n out.old }
 {
     let fours = n / 4;
     store_fours(capture, fours, out);
@@ -52,7 +52,7 @@ fn store_characters(capture: &[u8], n: usize, out: &mut [u16])
 
 // Unpacks a capture's characters into the front of `out`; answers their number.
 pub fn unpack(capture: &[u8], out: &mut [u16]) -> Answer
-    ensures { (says result ≡ unpackSays capture.now (length out.old)) × (out.new ≡ unpackLeaves capture.now out.old) }
+    ensures { (says result ≡ unpack_says capture.now (length out.old)) × (out.new ≡ unpack_leaves capture.now out.old) }
 {
     if !is_legal(capture) {
         return Answer::Refused(refusal::BAD_CAPTURE);

@@ -6,27 +6,27 @@ use Prim.Native.Nat.{ℕ, ◌/◌, ◌%◌}
 use lib.Dec.{eqb}
 use lib.IntN.{ℤ}
 use borrow.Author.Tests.{eq-eqb, ne_eqb}
-use Rattle.character_rules.specs.Disparity.{disparityOf}
-use Rattle.character_rules.specs.Answers.{clean, wrongDisparity, invalid}
-use Rattle.character_rules.specs.Results.{packedSymbol, packedDisparity, unpacked}
+use Rattle.character_rules.specs.Disparity.{disparity_of}
+use Rattle.character_rules.specs.Answers.{clean, wrong_disparity, invalid}
+use Rattle.character_rules.specs.Results.{packed_symbol, packed_disparity, unpacked}
 use Rattle.disparity.proofs.Signed.{again}
 
-again-of : (p : Bool) → again (disparityOf p) ≡ disparityOf p
-again-of true = refl
-again-of false = refl
+again_of : (p : Bool) → again (disparity_of p) ≡ disparity_of p
+again_of true = refl
+again_of false = refl
 
-module _ (n : ℕ) (d : ℤ) (hd : d ≡ packedDisparity n) where
-  same : again d ≡ packedDisparity n
-  same = ap again hd ∙ again-of (eqb (n / 2048 % 2) 1)
+module _ (n : ℕ) (d : ℤ) (hd : d ≡ packed_disparity n) where
+  same : again d ≡ packed_disparity n
+  same = ap again hd ∙ again_of (eqb (n / 2048 % 2) 1)
 
-  pub unpack-clean : n / 512 % 4 ≡ 0 → clean (packedSymbol n) (again d) ≡ unpacked n
+  pub unpack_clean : n / 512 % 4 ≡ 0 → clean (packed_symbol n) (again d) ≡ unpacked n
   unfolding unpacked
-  unpack-clean h = ap (clean (packedSymbol n)) same ∙ rw (eq-eqb (n / 512 % 4) 0 h)
+  unpack_clean h = ap (clean (packed_symbol n)) same ∙ rw (eq-eqb (n / 512 % 4) 0 h)
 
-  pub unpack-invalid : (n / 512 % 4 ≡ 0 → ⊥) → n / 512 % 4 ≡ 1 → invalid (again d) ≡ unpacked n
+  pub unpack_invalid : (n / 512 % 4 ≡ 0 → ⊥) → n / 512 % 4 ≡ 1 → invalid (again d) ≡ unpacked n
   unfolding unpacked
-  unpack-invalid g h = ap invalid same ∙ rw (ne_eqb (n / 512 % 4) 0 g, eq-eqb (n / 512 % 4) 1 h)
+  unpack_invalid g h = ap invalid same ∙ rw (ne_eqb (n / 512 % 4) 0 g, eq-eqb (n / 512 % 4) 1 h)
 
-  pub unpack-wrong : (n / 512 % 4 ≡ 0 → ⊥) → (n / 512 % 4 ≡ 1 → ⊥) → wrongDisparity (packedSymbol n) (again d) ≡ unpacked n
+  pub unpack_wrong : (n / 512 % 4 ≡ 0 → ⊥) → (n / 512 % 4 ≡ 1 → ⊥) → wrong_disparity (packed_symbol n) (again d) ≡ unpacked n
   unfolding unpacked
-  unpack-wrong g h = ap (wrongDisparity (packedSymbol n)) same ∙ rw (ne_eqb (n / 512 % 4) 0 g, ne_eqb (n / 512 % 4) 1 h)
+  unpack_wrong g h = ap (wrong_disparity (packed_symbol n)) same ∙ rw (ne_eqb (n / 512 % 4) 0 g, ne_eqb (n / 512 % 4) 1 h)

@@ -1,10 +1,10 @@
 // The reader of characters: one look-up in a constant table.
 ghost use Rattle.std.specs.Prelude.{◌≡◌, ◌<◌};
-ghost use Rattle.character_rules.specs.Disparity.{disparityOf};
-ghost use Rattle.character_rules.specs.Answers.{readingSays};
+ghost use Rattle.character_rules.specs.Disparity.{disparity_of};
+ghost use Rattle.character_rules.specs.Answers.{reading_says};
 ghost use Rattle.character_rules.specs.Reading.{reading};
 ghost use Rattle.character_rules.specs.Results.{packed, unpacked};
-ghost use Rattle.character_table.specs.Entries.{resultIn};
+ghost use Rattle.character_table.specs.Entries.{result_in};
 ghost use Rattle.character_table.specs.Table.{table};
 
 use character_rules::Decoded;
@@ -14,7 +14,7 @@ use symbol::Symbol;
 
 // A packed result taken apart.
 pub fn unpack_result(res: u16) -> Decoded
-    ensures { readingSays result ≡ unpacked res }
+    ensures { reading_says result ≡ unpacked res }
 {
     let symbol = Symbol {
         byte: (res % 256) as u8,
@@ -33,7 +33,7 @@ pub fn unpack_result(res: u16) -> Decoded
 
 // The result that an entry holds for a disparity.
 pub fn result_in(entry: u16, plus: bool) -> u16
-    ensures { result ≡ resultIn entry plus }
+    ensures { result ≡ result_in entry plus }
 {
     if plus {
         return entry % 512 + entry / 4096 % 8 * 512;
@@ -44,7 +44,7 @@ pub fn result_in(entry: u16, plus: bool) -> u16
 // The look-up.
 fn look_up(entries: &[u16; 1024], character: usize, plus: bool) -> u16
     requires { (entries.now ≡ table) × (character < 1024) }
-    ensures { result ≡ packed (reading character (disparityOf plus)) }
+    ensures { result ≡ packed (reading character (disparity_of plus)) }
 {
     let entry = entries[character];
     result_in(entry, plus)
@@ -52,7 +52,7 @@ fn look_up(entries: &[u16; 1024], character: usize, plus: bool) -> u16
 
 // A character read at a disparity, with the new disparity; or refusal 1.
 pub fn read(character: u32, disparity: i32) -> Decoded
-    ensures { readingSays result ≡ reading character disparity }
+    ensures { reading_says result ≡ reading character disparity }
 {
     if 1023 < character {
         return Decoded::Refused(refusal::OUT_OF_RANGE);

@@ -4,7 +4,7 @@ use Rattle.character_rules.specs.Writing.{writing}
 use Rattle.character_rules.specs.Reading.{reading}
 use Rattle.character_rules.specs.Demand.{DemandTwo}
 use Rattle.character_rules.proofs.Trip.{round_trip, exact, otherwise}
-use Rattle.character_rules.proofs.LineBalance.{balanced-line}
+use Rattle.character_rules.proofs.LineBalance.{balanced_line}
 
-pub demand-two : DemandTwo reading writing
-demand-two = record { roundTrip = round_trip; exact = exact; otherwise = otherwise; balanced = balanced-line }
+pub demand_two : DemandTwo reading writing
+demand_two = record { round_trip = round_trip; exact = exact; otherwise = otherwise; balanced = balanced_line }

@@ -15,55 +15,55 @@ use borrow.Author.Tests.{lt-ltb, le-ltb}
 use Rattle.refusal.specs.Order.{Check, check, outcome, left}
 use Rattle.laws.specs.Lists.{all_of}
 use Rattle.laws.proofs.Bools.{and_left, and_right}
-use Rattle.laws.proofs.Cases.{some-is-not-none}
-use Rattle.character_rules.specs.Disparity.{isPlus, isDisparity, disparityOf}
-use Rattle.character_rules.specs.Answers.{Reading, RunReading, runRead, notRunRead}
+use Rattle.laws.proofs.Cases.{some_is_not_none}
+use Rattle.character_rules.specs.Disparity.{is_plus, is_disparity, disparity_of}
+use Rattle.character_rules.specs.Answers.{Reading, RunReading, run_read, not_run_read}
 use Rattle.character_rules.specs.Reading.{reading}
-use Rattle.character_rules.specs.Results.{packed, afterOne, in_range, runResults, runClosing, runReading, runOutput, readingsOf}
+use Rattle.character_rules.specs.Results.{packed, after_one, in_range, run_results, run_closing, run_reading, run_output, readings_of}
 use Rattle.character_rules.proofs.Disparities.{by_sign}
-use Rattle.character_rules.proofs.Packed.{after-disparity, after_plus}
+use Rattle.character_rules.proofs.Packed.{after_disparity, after_plus}
 
 -- ---- the refusals
 
-abbrev checksBy : Bool → Bool → Bool → List Check
-checksBy p q s = check 1 (not p || not q) ∷ check 6 s ∷ []
+abbrev checks_by : Bool → Bool → Bool → List Check
+checks_by p q s = check 1 (not p || not q) ∷ check 6 s ∷ []
 
 module _ (cs : List ℕ) (d : ℤ) (out : List ℕ) where
-  abbrev answerBy : Bool → Bool → Bool → RunReading
-  answerBy p q s = outcome (checksBy p q s) notRunRead (runRead (runClosing cs d))
+  abbrev answer_by : Bool → Bool → Bool → RunReading
+  answer_by p q s = outcome (checks_by p q s) not_run_read (run_read (run_closing cs d))
 
-  abbrev outputBy : Bool → Bool → Bool → List ℕ
-  outputBy p q s = left (checksBy p q s) out (runResults cs d ++ drop (length cs) out)
+  abbrev output_by : Bool → Bool → Bool → List ℕ
+  output_by p q s = left (checks_by p q s) out (run_results cs d ++ drop (length cs) out)
 
   -- the two sides of the contract, by the three tests
-  by_tests : {p q s : Bool} → isDisparity d ≡ p → all_of in_range cs ≡ q → ltb (length out) (length cs) ≡ s
-      → (answerBy p q s ≡ runReading cs d (length out)) × (outputBy p q s ≡ runOutput cs d out)
-  unfolding runReading runOutput
-  by_tests e f g = (sym (λ i. answerBy (e i) (f i) (g i)), sym (λ i. outputBy (e i) (f i) (g i)))
+  by_tests : {p q s : Bool} → is_disparity d ≡ p → all_of in_range cs ≡ q → ltb (length out) (length cs) ≡ s
+      → (answer_by p q s ≡ run_reading cs d (length out)) × (output_by p q s ≡ run_output cs d out)
+  unfolding run_reading run_output
+  by_tests e f g = (sym (λ i. answer_by (e i) (f i) (g i)), sym (λ i. output_by (e i) (f i) (g i)))
 
-  pub run-bad : isDisparity d ≡ false → (notRunRead 1 ≡ runReading cs d (length out)) × (out ≡ runOutput cs d out)
-  run-bad e = by_tests e refl refl
+  pub run_bad : is_disparity d ≡ false → (not_run_read 1 ≡ run_reading cs d (length out)) × (out ≡ run_output cs d out)
+  run_bad e = by_tests e refl refl
 
-  pub run-far : isDisparity d ≡ true → all_of in_range cs ≡ false → (notRunRead 1 ≡ runReading cs d (length out)) × (out ≡ runOutput cs d out)
-  run-far e f = by_tests e f refl
+  pub run_far : is_disparity d ≡ true → all_of in_range cs ≡ false → (not_run_read 1 ≡ run_reading cs d (length out)) × (out ≡ run_output cs d out)
+  run_far e f = by_tests e f refl
 
-  pub run_short : isDisparity d ≡ true → all_of in_range cs ≡ true → length out < length cs → (notRunRead 6 ≡ runReading cs d (length out)) × (out ≡ runOutput cs d out)
+  pub run_short : is_disparity d ≡ true → all_of in_range cs ≡ true → length out < length cs → (not_run_read 6 ≡ run_reading cs d (length out)) × (out ≡ run_output cs d out)
   run_short e f h = by_tests e f (lt-ltb (length out) (length cs) h)
 
-  pub run-done : isDisparity d ≡ true → all_of in_range cs ≡ true → length cs ≤ length out → (runRead (runClosing cs d) ≡ runReading cs d (length out))
-      × (runResults cs d ++ drop (length cs) out ≡ runOutput cs d out)
-  run-done e f h = by_tests e f (le-ltb (length out) (length cs) h)
+  pub run_done : is_disparity d ≡ true → all_of in_range cs ≡ true → length cs ≤ length out → (run_read (run_closing cs d) ≡ run_reading cs d (length out))
+      × (run_results cs d ++ drop (length cs) out ≡ run_output cs d out)
+  run_done e f h = by_tests e f (le-ltb (length out) (length cs) h)
 
   -- a refused run leaves the output as it stood
-  pub run-leaves : (n : ℕ) → notRunRead n ≡ runReading cs d (length out) → runOutput cs d out ≡ out
-  unfolding runReading runOutput
-  run-leaves n = go (isDisparity d) (all_of in_range cs) (ltb (length out) (length cs))
+  pub run_leaves : (n : ℕ) → not_run_read n ≡ run_reading cs d (length out) → run_output cs d out ≡ out
+  unfolding run_reading run_output
+  run_leaves n = go (is_disparity d) (all_of in_range cs) (ltb (length out) (length cs))
     where
-      go : (p q s : Bool) → notRunRead n ≡ answerBy p q s → outputBy p q s ≡ out
+      go : (p q s : Bool) → not_run_read n ≡ answer_by p q s → output_by p q s ≡ out
       go false q s e = refl
       go true false s e = refl
       go true true true e = refl
-      go true true false e = absurd (some-is-not-none (sym (ap (λ (r : RunReading). r.disparity) e)))
+      go true true false e = absurd (some_is_not_none (sym (ap (λ (r : RunReading). r.disparity) e)))
 
 -- ---- every character in range
 
@@ -74,41 +74,41 @@ range_at (c ∷ cs) zero t h = ltb→lt c 1024 (and_left (in_range c) (all_of in
 range_at (c ∷ cs) (suc i) t h = range_at cs i (and_right (in_range c) (all_of in_range cs) t) (omega arith)
 
 -- a run from a disparity ends at one
-pub closing-run : (cs : List ℕ) (d : ℤ) → T (all_of in_range cs) → T (isDisparity d) → T (isDisparity (runClosing cs d))
-closing-run [] d a t = t
-closing-run (c ∷ cs) d a t =
+pub closing_run : (cs : List ℕ) (d : ℤ) → T (all_of in_range cs) → T (is_disparity d) → T (is_disparity (run_closing cs d))
+closing_run [] d a t = t
+closing_run (c ∷ cs) d a t =
     let h = ltb→lt c 1024 (and_left (in_range c) (all_of in_range cs) a) in
-    closing-run cs (afterOne c d) (and_right (in_range c) (all_of in_range cs) a) (after-disparity c d (omega arith) t)
+    closing_run cs (after_one c d) (and_right (in_range c) (all_of in_range cs) a) (after_disparity c d (omega arith) t)
 
-pub disparity-is : (plus : Bool) → T (isDisparity (disparityOf plus))
-disparity-is true = tt
-disparity-is false = tt
+pub disparity_is : (plus : Bool) → T (is_disparity (disparity_of plus))
+disparity_is true = tt
+disparity_is false = tt
 
 -- the disparity that the next character is read at, from a packed result
-pub next-read : (c : ℕ) (plus : Bool) (n : ℕ) → c < 1024 → n ≡ packed (reading c (disparityOf plus)) → afterOne c (disparityOf plus) ≡ disparityOf (leb 2048 n)
-next-read c plus n h e =
-    let d = disparityOf plus in
-    sym (by_sign (afterOne c d) (after-disparity c d (omega arith) (disparity-is plus)))
-    ∙ ap disparityOf (sym (after_plus c d (omega arith) (disparity-is plus)) ∙ ap (λ (k : ℕ). leb 2048 k) (sym e))
+pub next_read : (c : ℕ) (plus : Bool) (n : ℕ) → c < 1024 → n ≡ packed (reading c (disparity_of plus)) → after_one c (disparity_of plus) ≡ disparity_of (leb 2048 n)
+next_read c plus n h e =
+    let d = disparity_of plus in
+    sym (by_sign (after_one c d) (after_disparity c d (omega arith) (disparity_is plus)))
+    ∙ ap disparity_of (sym (after_plus c d (omega arith) (disparity_is plus)) ∙ ap (λ (k : ℕ). leb 2048 k) (sym e))
 
 -- ---- two runs, one after the other
 
-pub readings-append : (cs ds : List ℕ) (d : ℤ) → readingsOf (cs ++ ds) d ≡ readingsOf cs d ++ readingsOf ds (runClosing cs d)
-readings-append [] ds d = refl
-readings-append (c ∷ cs) ds d = ap (λ (l : List Reading). reading c d ∷ l) (readings-append cs ds (afterOne c d))
+pub readings_append : (cs ds : List ℕ) (d : ℤ) → readings_of (cs ++ ds) d ≡ readings_of cs d ++ readings_of ds (run_closing cs d)
+readings_append [] ds d = refl
+readings_append (c ∷ cs) ds d = ap (λ (l : List Reading). reading c d ∷ l) (readings_append cs ds (after_one c d))
 
-pub closing-append : (cs ds : List ℕ) (d : ℤ) → runClosing (cs ++ ds) d ≡ runClosing ds (runClosing cs d)
-closing-append [] ds d = refl
-closing-append (c ∷ cs) ds d = closing-append cs ds (afterOne c d)
+pub closing_append : (cs ds : List ℕ) (d : ℤ) → run_closing (cs ++ ds) d ≡ run_closing ds (run_closing cs d)
+closing_append [] ds d = refl
+closing_append (c ∷ cs) ds d = closing_append cs ds (after_one c d)
 
-pub length-readings : (cs : List ℕ) (d : ℤ) → length (readingsOf cs d) ≡ length cs
-length-readings [] d = refl
-length-readings (c ∷ cs) d = ap suc (length-readings cs (afterOne c d))
+pub length_readings : (cs : List ℕ) (d : ℤ) → length (readings_of cs d) ≡ length cs
+length_readings [] d = refl
+length_readings (c ∷ cs) d = ap suc (length_readings cs (after_one c d))
 
 -- ---- a store at a place: what lies past it is as it stood
 
-pub past-store : (out old : List ℕ) (i r : ℕ) → i < length out → drop i out ≡ drop i old → drop (suc i) (set out i r) ≡ drop (suc i) old
-past-store out old i r h rest =
+pub past_store : (out old : List ℕ) (i r : ℕ) → i < length out → drop i out ≡ drop i old → drop (suc i) (set out i r) ≡ drop (suc i) old
+past_store out old i r h rest =
     drop-set-lt (suc i) out i r (omega arith)
     ∙ ap (λ (n : ℕ). drop n out) (sym (add-one i))
     ∙ sym (drop-drop 1 i out) ∙ ap (drop 1) rest ∙ drop-drop 1 i old
@@ -119,28 +119,28 @@ past-store out old i r h rest =
 pub record Reached (cs : List ℕ) (d : ℤ) (old : List ℕ) (i : ℕ) (out : List ℕ) (plus : Bool) : Type 0 where
   pub place : i ≤ length cs
   pub room : length out ≡ length old
-  pub results : runResults cs d ≡ take i out ++ runResults (drop i cs) (disparityOf plus)
+  pub results : run_results cs d ≡ take i out ++ run_results (drop i cs) (disparity_of plus)
   pub rest : drop i out ≡ drop i old
-  pub ends : runClosing cs d ≡ runClosing (drop i cs) (disparityOf plus)
+  pub ends : run_closing cs d ≡ run_closing (drop i cs) (disparity_of plus)
 
-pub at-start : (cs : List ℕ) (plus : Bool) (out : List ℕ) → Reached cs (disparityOf plus) out 0 out plus
-at-start cs plus out = record { place = omega arith; room = refl; results = refl; rest = refl; ends = refl }
+pub at_start : (cs : List ℕ) (plus : Bool) (out : List ℕ) → Reached cs (disparity_of plus) out 0 out plus
+at_start cs plus out = record { place = omega arith; room = refl; results = refl; rest = refl; ends = refl }
 
 module _ (cs : List ℕ) (d : ℤ) (old : List ℕ) (i : ℕ) (out : List ℕ) (plus : Bool) (r : ℕ) (reached : Reached cs d old i out plus)
-    (h : i < length cs) (g : get_or cs i 0 < 1024) (fits : length cs ≤ length old) (e : r ≡ packed (reading (get_or cs i 0) (disparityOf plus))) where
-  next : afterOne (get_or cs i 0) (disparityOf plus) ≡ disparityOf (leb 2048 r)
-  next = next-read (get_or cs i 0) plus r g e
+    (h : i < length cs) (g : get_or cs i 0 < 1024) (fits : length cs ≤ length old) (e : r ≡ packed (reading (get_or cs i 0) (disparity_of plus))) where
+  next : after_one (get_or cs i 0) (disparity_of plus) ≡ disparity_of (leb 2048 r)
+  next = next_read (get_or cs i 0) plus r g e
 
-  remain : runResults (drop i cs) (disparityOf plus) ≡ r ∷ runResults (drop (suc i) cs) (disparityOf (leb 2048 r))
+  remain : run_results (drop i cs) (disparity_of plus) ≡ r ∷ run_results (drop (suc i) cs) (disparity_of (leb 2048 r))
   remain =
-      ap (λ (l : List ℕ). runResults l (disparityOf plus)) (drop-cons cs i 0 h)
-      ∙ ap₂ (λ (k : ℕ) (z : ℤ). k ∷ runResults (drop (suc i) cs) z) (sym e) next
+      ap (λ (l : List ℕ). run_results l (disparity_of plus)) (drop-cons cs i 0 h)
+      ∙ ap₂ (λ (k : ℕ) (z : ℤ). k ∷ run_results (drop (suc i) cs) z) (sym e) next
 
-  stored : take i out ++ (r ∷ runResults (drop (suc i) cs) (disparityOf (leb 2048 r))) ≡ take (suc i) (set out i r) ++ runResults (drop (suc i) cs)
-      (disparityOf (leb 2048 r))
+  stored : take i out ++ (r ∷ run_results (drop (suc i) cs) (disparity_of (leb 2048 r))) ≡ take (suc i) (set out i r) ++ run_results (drop (suc i) cs)
+      (disparity_of (leb 2048 r))
   stored =
       let room = reached.room in
-      let ys = runResults (drop (suc i) cs) (disparityOf (leb 2048 r)) in
+      let ys = run_results (drop (suc i) cs) (disparity_of (leb 2048 r)) in
       sym (ap (λ (l : List ℕ). l ++ ys) (take-suc-set out i r (omega arith)) ∙ append_assoc (take i out) (r ∷ []) ys)
 
   -- one character more
@@ -150,23 +150,23 @@ module _ (cs : List ℕ) (d : ℤ) (old : List ℕ) (i : ℕ) (out : List ℕ) (
         place = h;
         room = length-set out i r ∙ reached.room;
         results = reached.results ∙ ap (λ (l : List ℕ). take i out ++ l) remain ∙ stored;
-        rest = let room = reached.room in past-store out old i r (omega arith) reached.rest;
-        ends = reached.ends ∙ ap (λ (l : List ℕ). runClosing l (disparityOf plus)) (drop-cons cs i 0 h) ∙ ap (runClosing (drop (suc i) cs)) next;
+        rest = let room = reached.room in past_store out old i r (omega arith) reached.rest;
+        ends = reached.ends ∙ ap (λ (l : List ℕ). run_closing l (disparity_of plus)) (drop-cons cs i 0 h) ∙ ap (run_closing (drop (suc i) cs)) next;
       }
 
-plus-is : (p : Bool) → isPlus (disparityOf p) ≡ p
-plus-is true = refl
-plus-is false = refl
+plus_is : (p : Bool) → is_plus (disparity_of p) ≡ p
+plus_is true = refl
+plus_is false = refl
 
 -- the whole run
-pub at-end : (cs : List ℕ) (d : ℤ) (old : List ℕ) (i : ℕ) (out : List ℕ) (plus : Bool) → Reached cs d old i out plus → i ≡ length cs
-    → (plus ≡ isPlus (runClosing cs d)) × (out ≡ runResults cs d ++ drop (length cs) old)
-at-end cs d old i out plus reached e =
+pub at_end_lem : (cs : List ℕ) (d : ℤ) (old : List ℕ) (i : ℕ) (out : List ℕ) (plus : Bool) → Reached cs d old i out plus → i ≡ length cs
+    → (plus ≡ is_plus (run_closing cs d)) × (out ≡ run_results cs d ++ drop (length cs) old)
+at_end_lem cs d old i out plus reached e =
     let n = length cs in
     let none : drop i cs ≡ [] = ap (λ (k : ℕ). drop k cs) e ∙ drop-length cs in (
-      sym (ap isPlus (reached.ends ∙ ap (λ (l : List ℕ). runClosing l (disparityOf plus)) none) ∙ plus-is plus),
+      sym (ap is_plus (reached.ends ∙ ap (λ (l : List ℕ). run_closing l (disparity_of plus)) none) ∙ plus_is plus),
       sym (take-append-drop i out)
           ∙ ap₂ (λ (a b : List ℕ). a ++ b)
-          (sym (append-nil (take i out)) ∙ sym (reached.results ∙ ap (λ (l : List ℕ). take i out ++ runResults l (disparityOf plus)) none))
+          (sym (append-nil (take i out)) ∙ sym (reached.results ∙ ap (λ (l : List ℕ). take i out ++ run_results l (disparity_of plus)) none))
           (reached.rest ∙ ap (λ (k : ℕ). drop k old) e),
     )

@@ -15,7 +15,7 @@ use Rattle.character_rules.specs.declared.RunRead.{RunRead}
 use Rattle.character_rules.specs.declared.RunRead.TheVariants.{Read, Refused as NotRun}
 use Rattle.character_rules.specs.declared.RunWritten.{RunWritten}
 use Rattle.character_rules.specs.declared.RunWritten.TheVariants.{Written as Wrote, Refused as NotWrote}
-use Rattle.character_rules.specs.Answers.{Writing, writingSays, Reading, readingSays, RunReading, runSays, RunWriting, runWrittenSays}
+use Rattle.character_rules.specs.Answers.{Writing, writing_says, Reading, reading_says, RunReading, run_says, RunWriting, run_written_says}
 
 -- an answer from its refusal's number and its values
 module _ (n : ℕ) where
@@ -39,45 +39,45 @@ module _ (n : ℕ) where
   ran none = NotWrote n
   ran (some d) = Wrote d
 
-abbrev pub theEncoded : Writing → Encoded
-theEncoded w = encoded w.refusal w.character w.disparity
+abbrev pub the_encoded : Writing → Encoded
+the_encoded w = encoded w.refusal w.character w.disparity
 
-abbrev pub theDecoded : Reading → Decoded
-theDecoded r = decoded r.refusal r.violation r.symbol r.disparity
+abbrev pub the_decoded : Reading → Decoded
+the_decoded r = decoded r.refusal r.violation r.symbol r.disparity
 
-abbrev pub theRunRead : RunReading → RunRead
-theRunRead r = run r.refusal r.disparity
+abbrev pub the_run_read : RunReading → RunRead
+the_run_read r = run r.refusal r.disparity
 
-abbrev pub theRunWritten : RunWriting → RunWritten
-theRunWritten r = ran r.refusal r.disparity
+abbrev pub the_run_written : RunWriting → RunWritten
+the_run_written r = ran r.refusal r.disparity
 
-pub encoded-told : (a : Encoded) → theEncoded (writingSays a) ≡ a
-encoded-told (Written c d) = refl
-encoded-told (Refused n) = refl
+pub encoded_told : (a : Encoded) → the_encoded (writing_says a) ≡ a
+encoded_told (Written c d) = refl
+encoded_told (Refused n) = refl
 
-pub decoded-told : (a : Decoded) → theDecoded (readingSays a) ≡ a
-decoded-told (Clean s d) = refl
-decoded-told (WrongDisparity s d) = refl
-decoded-told (Invalid d) = refl
-decoded-told (NotRead n) = refl
+pub decoded_told : (a : Decoded) → the_decoded (reading_says a) ≡ a
+decoded_told (Clean s d) = refl
+decoded_told (WrongDisparity s d) = refl
+decoded_told (Invalid d) = refl
+decoded_told (NotRead n) = refl
 
-pub run-told : (a : RunRead) → theRunRead (runSays a) ≡ a
-run-told (Read d) = refl
-run-told (NotRun n) = refl
+pub run_told : (a : RunRead) → the_run_read (run_says a) ≡ a
+run_told (Read d) = refl
+run_told (NotRun n) = refl
 
-pub run-written-told : (a : RunWritten) → theRunWritten (runWrittenSays a) ≡ a
-run-written-told (Wrote d) = refl
-run-written-told (NotWrote n) = refl
+pub run_written_told : (a : RunWritten) → the_run_written (run_written_says a) ≡ a
+run_written_told (Wrote d) = refl
+run_written_told (NotWrote n) = refl
 
 -- two answers that say the same are the same
-pub one-encoded : (a b : Encoded) → writingSays a ≡ writingSays b → a ≡ b
-one-encoded a b e = sym (encoded-told a) ∙ ap theEncoded e ∙ encoded-told b
+pub one_encoded : (a b : Encoded) → writing_says a ≡ writing_says b → a ≡ b
+one_encoded a b e = sym (encoded_told a) ∙ ap the_encoded e ∙ encoded_told b
 
-pub one-decoded : (a b : Decoded) → readingSays a ≡ readingSays b → a ≡ b
-one-decoded a b e = sym (decoded-told a) ∙ ap theDecoded e ∙ decoded-told b
+pub one_decoded : (a b : Decoded) → reading_says a ≡ reading_says b → a ≡ b
+one_decoded a b e = sym (decoded_told a) ∙ ap the_decoded e ∙ decoded_told b
 
-pub one-run : (a b : RunRead) → runSays a ≡ runSays b → a ≡ b
-one-run a b e = sym (run-told a) ∙ ap theRunRead e ∙ run-told b
+pub one_run : (a b : RunRead) → run_says a ≡ run_says b → a ≡ b
+one_run a b e = sym (run_told a) ∙ ap the_run_read e ∙ run_told b
 
-pub one-run-written : (a b : RunWritten) → runWrittenSays a ≡ runWrittenSays b → a ≡ b
-one-run-written a b e = sym (run-written-told a) ∙ ap theRunWritten e ∙ run-written-told b
+pub one_run_written : (a b : RunWritten) → run_written_says a ≡ run_written_says b → a ≡ b
+one_run_written a b e = sym (run_written_told a) ∙ ap the_run_written e ∙ run_written_told b

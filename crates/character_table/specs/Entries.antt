@@ -2,5 +2,5 @@
 -- three bits for the violation and the new disparity at −1, and three for those at +1.
 use Rattle.std.specs.Prelude.{ℕ, ◌+◌, ◌*◌, ◌/◌, ◌%◌, Bool, cond}
 
-abbrev pub resultIn : ℕ → Bool → ℕ
-resultIn e plus = cond plus (e % 512 + e / 4096 % 8 * 512) (e % 4096)
+abbrev pub result_in : ℕ → Bool → ℕ
+result_in e plus = cond plus (e % 512 + e / 4096 % 8 * 512) (e % 4096)

@@ -1,9 +1,9 @@
 // The writer of characters: two blocks, each chosen at the disparity in force when it begins.
 ghost use Rattle.std.specs.Prelude.{◌≡◌, ◌<◌, ◌≤◌, cond, T, neg_ℤ};
-ghost use Rattle.character_rules.specs.Disparity.{isDisparity};
-ghost use Rattle.character_rules.specs.Blocks.{unbalanced, inForce, sixListed, sixChanges, sixBlock};
-ghost use Rattle.character_rules.specs.Blocks.{fourListed, fourChanges, fourByList, alternateAtMinus, alternateAtPlus, fourBlock, character, closing};
-ghost use Rattle.character_rules.specs.Answers.{written, writingSays};
+ghost use Rattle.character_rules.specs.Disparity.{is_disparity};
+ghost use Rattle.character_rules.specs.Blocks.{unbalanced, in_force, six_listed, six_changes, six_block};
+ghost use Rattle.character_rules.specs.Blocks.{four_listed, four_changes, four_by_list, alternate_at_minus, alternate_at_plus, four_block, character, closing};
+ghost use Rattle.character_rules.specs.Answers.{written, writing_says};
 ghost use Rattle.character_rules.specs.Writing.{writing};
 
 use character_rules::Encoded;
@@ -48,8 +48,8 @@ fn four_unbalanced(b: u8) -> bool
 
 // The disparity after a block: an unbalanced one turns it over.
 fn turn(over: bool, d: i32) -> i32
-    requires { T (isDisparity d) }
-    ensures { (result ≡ cond over (neg_ℤ d) d) × T (isDisparity result) }
+    requires { T (is_disparity d) }
+    ensures { (result ≡ cond over (neg_ℤ d) d) × T (is_disparity result) }
 {
     if over {
         return -d;
@@ -60,7 +60,7 @@ fn turn(over: bool, d: i32) -> i32
 // A block of the list at the disparity in force.
 fn in_force(whole: u8, changes: bool, plus: bool, b: u8) -> u8
     requires { b ≤ whole }
-    ensures { (result ≡ inForce whole changes plus b) × (result ≤ whole) }
+    ensures { (result ≡ in_force whole changes plus b) × (result ≤ whole) }
 {
     if changes {
         if plus {
@@ -72,7 +72,7 @@ fn in_force(whole: u8, changes: bool, plus: bool, b: u8) -> u8
 
 fn six_listed(control: bool, x: usize) -> u8
     requires { x < 32 }
-    ensures { (result ≡ sixListed control x) × (result < 64) }
+    ensures { (result ≡ six_listed control x) × (result < 64) }
 {
     if control {
         if x == 28 {
@@ -84,7 +84,7 @@ fn six_listed(control: bool, x: usize) -> u8
 
 fn six_changes(control: bool, x: usize, b: u8) -> bool
     requires { b < 64 }
-    ensures { result ≡ sixChanges control x b }
+    ensures { result ≡ six_changes control x b }
 {
     if control {
         return true;
@@ -97,7 +97,7 @@ fn six_changes(control: bool, x: usize, b: u8) -> bool
 
 fn six_block(control: bool, x: usize, plus: bool) -> u8
     requires { x < 32 }
-    ensures { (result ≡ sixBlock control x plus) × (result < 64) }
+    ensures { (result ≡ six_block control x plus) × (result < 64) }
 {
     let b = six_listed(control, x);
     in_force(0b111111, six_changes(control, x, b), plus, b)
@@ -105,7 +105,7 @@ fn six_block(control: bool, x: usize, plus: bool) -> u8
 
 fn four_listed(control: bool, y: usize) -> u8
     requires { y < 8 }
-    ensures { (result ≡ fourListed control y) × (result < 16) }
+    ensures { (result ≡ four_listed control y) × (result < 16) }
 {
     if control {
         return CONTROL_FOUR_BLOCKS[y];
@@ -115,7 +115,7 @@ fn four_listed(control: bool, y: usize) -> u8
 
 fn four_changes(control: bool, y: usize, b: u8) -> bool
     requires { b < 16 }
-    ensures { result ≡ fourChanges control y b }
+    ensures { result ≡ four_changes control y b }
 {
     if control {
         return true;
@@ -128,14 +128,14 @@ fn four_changes(control: bool, y: usize, b: u8) -> bool
 
 fn four_by_list(control: bool, y: usize, plus: bool) -> u8
     requires { y < 8 }
-    ensures { (result ≡ fourByList control y plus) × (result < 16) }
+    ensures { (result ≡ four_by_list control y plus) × (result < 16) }
 {
     let b = four_listed(control, y);
     in_force(0b1111, four_changes(control, y, b), plus, b)
 }
 
 fn alternate_at_minus(x: usize, plus: bool) -> bool
-    ensures { result ≡ alternateAtMinus x plus }
+    ensures { result ≡ alternate_at_minus x plus }
 {
     if plus {
         return false;
@@ -150,7 +150,7 @@ fn alternate_at_minus(x: usize, plus: bool) -> bool
 }
 
 fn alternate_at_plus(x: usize, plus: bool) -> bool
-    ensures { result ≡ alternateAtPlus x plus }
+    ensures { result ≡ alternate_at_plus x plus }
 {
     if !plus {
         return false;
@@ -166,7 +166,7 @@ fn alternate_at_plus(x: usize, plus: bool) -> bool
 
 fn four_block(control: bool, x: usize, y: usize, plus: bool) -> u8
     requires { y < 8 }
-    ensures { (result ≡ fourBlock control x y plus) × (result < 16) }
+    ensures { (result ≡ four_block control x y plus) × (result < 16) }
 {
     if control {
         return four_by_list(control, y, plus);
@@ -185,8 +185,8 @@ fn four_block(control: bool, x: usize, y: usize, plus: bool) -> u8
 
 // The two blocks, and the disparity turned over by each that is unbalanced.
 fn write_blocks(s: Symbol, d: i32) -> Encoded
-    requires { T (isDisparity d) }
-    ensures { writingSays result ≡ written (character s d) (closing s d) }
+    requires { T (is_disparity d) }
+    ensures { writing_says result ≡ written (character s d) (closing s d) }
 {
     let byte = s.byte;
     let control = s.control;
@@ -204,7 +204,7 @@ fn write_blocks(s: Symbol, d: i32) -> Encoded
 
 // A symbol as a character at a disparity, with the closing disparity; or refusal 1 or 3.
 pub fn write(symbol: Symbol, disparity: i32) -> Encoded
-    ensures { writingSays result ≡ writing symbol disparity }
+    ensures { writing_says result ≡ writing symbol disparity }
 {
     if !is_disparity(disparity) {
         return Encoded::Refused(refusal::OUT_OF_RANGE);

@@ -2,7 +2,7 @@
 pub mod table;
 
 ghost use Rattle.std.specs.Prelude.{◌≡◌};
-ghost use Rattle.crc.specs.Crc16.{crcStart, crcByte, crcFrom, checkBytesOf, crcOf, entries};
+ghost use Rattle.crc.specs.Crc16.{crc_start, crc_byte, crc_from, check_bytes_of, crc_of, entries};
 
 use crate::table::TABLE;
 
@@ -10,14 +10,14 @@ pub const START: u16 = 0xFFFF;
 
 // The register before any byte.
 pub fn start() -> u16
-    ensures { result ≡ crcStart }
+    ensures { result ≡ crc_start }
 {
     START
 }
 
 // The register after one more byte. A single byte needs no table: the taps lie so far apart that the eight steps are five moves of what falls out.
 pub fn step(register: u16, byte: u8) -> u16
-    ensures { result ≡ crcByte register byte }
+    ensures { result ≡ crc_byte register byte }
 {
     let low = (register ^ (byte as u16)) % 256;
     let out = low ^ (low * 16 % 256);
@@ -27,7 +27,7 @@ pub fn step(register: u16, byte: u8) -> u16
 // The same by one load from the table, which is lent.
 fn step_by(table: &[u16; 256], register: u16, byte: u8) -> u16
     requires { table.now ≡ entries }
-    ensures { result ≡ crcByte register byte }
+    ensures { result ≡ crc_byte register byte }
 {
     let low = (register ^ (byte as u16)) % 256;
     (register / 256) ^ table[low as usize]
@@ -35,7 +35,7 @@ fn step_by(table: &[u16; 256], register: u16, byte: u8) -> u16
 
 // The register after a run of bytes. The table is taken once.
 pub fn run(register: u16, bytes: &[u8]) -> u16
-    ensures { result ≡ crcFrom register bytes.now }
+    ensures { result ≡ crc_from register bytes.now }
 {
     let table = TABLE;
     let mut r = register;
@@ -49,14 +49,14 @@ pub fn run(register: u16, bytes: &[u8]) -> u16
 
 // The two check bytes of a register, in the order of the line.
 pub fn check_bytes(register: u16) -> [u8; 2]
-    ensures { result ≡ checkBytesOf register }
+    ensures { result ≡ check_bytes_of register }
 {
     [(255 - register % 256) as u8, (255 - register / 256) as u8]
 }
 
 // The two check bytes of a message.
 pub fn check_of(bytes: &[u8]) -> [u8; 2]
-    ensures { result ≡ crcOf bytes.now }
+    ensures { result ≡ crc_of bytes.now }
 {
     let register = run(START, bytes);
     check_bytes(register)

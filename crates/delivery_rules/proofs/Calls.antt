@@ -9,8 +9,8 @@ use lib.Dec.{eqb}
 use lib.ListN.{length, get_or, take, drop}
 use lib.Seq.{take_at}
 use borrow.Author.Tests.{eqb-true, eqb-false, ltb-true}
-use Rattle.laws.proofs.Cases.{by_cases, both_true, false-is-not-true}
-use Rattle.refusal.specs.Order.{refusalOf}
+use Rattle.laws.proofs.Cases.{by_cases, both_true, false_is_not_true}
+use Rattle.refusal.specs.Order.{refusal_of}
 use Rattle.refusal.proofs.Laws.{refused}
 use Rattle.retry_rules.specs.declared.Sender.{Sender}
 use Rattle.retry_rules.specs.declared.Receiver.{Receiver}
@@ -19,30 +19,30 @@ use Rattle.retry_rules.specs.declared.Offered.{Offered}
 use Rattle.retry_rules.specs.declared.Sent.{Sent}
 use Rattle.retry_rules.specs.declared.Ticked.{Ticked}
 use Rattle.retry_rules.specs.declared.Arrived.{Arrived}
-use Rattle.retry_rules.specs.Numbers.{amongLast}
-use Rattle.retry_rules.specs.States.{isDown, receiverRule}
-use Rattle.retry_rules.specs.Lent.{Content, laid, bufferAt, heldLength, heldBytes, heldContent}
-use Rattle.retry_rules.specs.Refused.{refusedSender, refusedTick}
-use Rattle.retry_rules.specs.Offer.{offerChecks, freeSlot, storedIn, offerOf, offerBuffers}
-use Rattle.retry_rules.specs.Send.{toSend, dueSlot, sendPoint, sendChecks, oneSent, dueSent, sendOf, sendOutput}
-use Rattle.retry_rules.specs.Reply.{heard, senderChecks, replyChecks, withCounters, replyOf, damagedReplyOf}
-use Rattle.retry_rules.specs.Tick.{ticked, tickOf}
-use Rattle.retry_rules.specs.Arrival.{arrivalChecks, advanced, delivery, answerTo, arrivalOf, arrivalOutput}
-use Rattle.retry_rules.proofs.StoredSlots.{stored-slot}
-use Rattle.retry_rules.proofs.Laid.{laid-first}
+use Rattle.retry_rules.specs.Numbers.{among_last}
+use Rattle.retry_rules.specs.States.{is_down, receiver_rule}
+use Rattle.retry_rules.specs.Lent.{Content, laid, buffer_at, held_length, held_bytes, held_content}
+use Rattle.retry_rules.specs.Refused.{refused_sender, refused_tick}
+use Rattle.retry_rules.specs.Offer.{offer_checks, free_slot, stored_in, offer_of, offer_buffers}
+use Rattle.retry_rules.specs.Send.{to_send, due_slot, send_point, send_checks, one_sent, due_sent, send_of, send_output}
+use Rattle.retry_rules.specs.Reply.{heard, sender_checks, reply_checks, with_counters, reply_of, damaged_reply_of}
+use Rattle.retry_rules.specs.Tick.{ticked, tick_of}
+use Rattle.retry_rules.specs.Arrival.{arrival_checks, advanced, delivery, answer_to, arrival_of, arrival_output}
+use Rattle.retry_rules.proofs.StoredSlots.{stored_slot}
+use Rattle.retry_rules.proofs.Laid.{laid_first}
 use Rattle.retry_rules.proofs.Held.{held-length}
-use Rattle.retry_rules.proofs.Done.{reply-done, tick-done, damaged-arrival-done}
-use Rattle.retry_rules.proofs.Seen.{Sound, sender-seen, Hears, reply-seen, Offers, offer-seen, offer-passes, Sends, send-seen}
-use Rattle.delivery_rules.specs.Ends.{segment, damaged, Reply, ack, nack, damaged-reply, Offering, Sending, Arriving}
-use Rattle.delivery_rules.specs.Demand.{noContent}
-use Rattle.delivery_rules.specs.Ours.{offeringOf, sendingOf, arrivingOf, hearing, arriving, ours}
+use Rattle.retry_rules.proofs.Done.{reply_done, tick-done, damaged_arrival_done}
+use Rattle.retry_rules.proofs.Seen.{Sound, sender_seen, Hears, reply_seen, Offers, offer_seen, offer_passes, Sends, send_seen}
+use Rattle.delivery_rules.specs.Ends.{segment, damaged, Reply, ack, nack, damaged_reply, Offering, Sending, Arriving}
+use Rattle.delivery_rules.specs.Demand.{no_content}
+use Rattle.delivery_rules.specs.Ours.{offering_of, sending_of, arriving_of, hearing, arriving, ours}
 
-true-is-not-false : {b : Bool} → b ≡ false → b ≡ true → ⊥
-true-is-not-false p q = false-is-not-true (sym p ∙ q)
+true_is_not_false : {b : Bool} → b ≡ false → b ≡ true → ⊥
+true_is_not_false p q = false_is_not_true (sym p ∙ q)
 
 -- what is laid at the front of an output stands there
-laid-front : (old bytes : List ℕ) → take (length bytes) (laid old 0 bytes) ≡ bytes
-laid-front old bytes = ap (take (length bytes)) (laid-first old bytes) ∙ take_at bytes (drop (length bytes) old) (length bytes) refl
+laid_front : (old bytes : List ℕ) → take (length bytes) (laid old 0 bytes) ≡ bytes
+laid_front old bytes = ap (take (length bytes)) (laid_first old bytes) ∙ take_at bytes (drop (length bytes) old) (length bytes) refl
 
 -- two things that turn on one test
 by_one :
@@ -56,108 +56,108 @@ abbrev pub taken : Sender → List ℕ → Content → Offering Sender
 taken s buffers x =
     record {
       accepted = true;
-      state = storedIn s x.channel x.bad (length x.bytes);
-      buffers = laid buffers (bufferAt s (freeSlot s.counters)) x.bytes;
+      state = stored_in s x.channel x.bad (length x.bytes);
+      buffers = laid buffers (buffer_at s (free_slot s.counters)) x.bytes;
     }
 
-abbrev pub turnedDown : Sender → List ℕ → Offering Sender
-turnedDown s buffers = record { accepted = false; state = s; buffers = buffers }
+abbrev pub turned_down : Sender → List ℕ → Offering Sender
+turned_down s buffers = record { accepted = false; state = s; buffers = buffers }
 
 pub offer-either :
     (s : Sender) (buffers : List ℕ) (x : Content) (P : Offering Sender → Type 0)
     → (Offers s (length buffers) x.channel (length x.bytes) → P (taken s buffers x))
-    → ((Offers s (length buffers) x.channel (length x.bytes) → ⊥) → P (turnedDown s buffers))
+    → ((Offers s (length buffers) x.channel (length x.bytes) → ⊥) → P (turned_down s buffers))
     → P (ours.offer s buffers x)
-unfolding offerOf offerBuffers
+unfolding offer_of offer_buffers
 offer-either s buffers x P f g =
-    let cs = offerChecks s (length buffers) x.channel (length x.bytes) in
-    by_one (λ (a : Offered) (l : List ℕ). P (offeringOf a l)) (eqb (refusalOf cs) 0)
-    (λ t. f (offer-seen s (length buffers) x.channel (length x.bytes) (eqb-true (refusalOf cs) 0 t)))
+    let cs = offer_checks s (length buffers) x.channel (length x.bytes) in
+    by_one (λ (a : Offered) (l : List ℕ). P (offering_of a l)) (eqb (refusal_of cs) 0)
+    (λ t. f (offer_seen s (length buffers) x.channel (length x.bytes) (eqb-true (refusal_of cs) 0 t)))
     (λ t. subst (λ (b : Bool). P (record { accepted = b; state = s; buffers = buffers })) (sym t)
-    (g (λ o. eqb-false (refusalOf cs) 0 t (offer-passes s (length buffers) x.channel (length x.bytes) o))))
+    (g (λ o. eqb-false (refusal_of cs) 0 t (offer_passes s (length buffers) x.channel (length x.bytes) o))))
 
 -- a send
 abbrev pub goes : Sender → List ℕ → Sending Sender
 goes s buffers =
     record {
       sent = true;
-      number = sendPoint s.counters;
-      content = heldContent s buffers (dueSlot s.counters);
-      state = record { counters = oneSent s.counters; slots = s.slots };
+      number = send_point s.counters;
+      content = held_content s buffers (due_slot s.counters);
+      state = record { counters = one_sent s.counters; slots = s.slots };
     }
 
 abbrev pub stays : Sender → Sending Sender
-stays s = record { sent = false; number = 0; content = noContent; state = s }
+stays s = record { sent = false; number = 0; content = no_content; state = s }
 
 -- what goes out is what the buffer at the send point holds
 goes-out :
     (s : Sender) (buffers output : List ℕ) (P : Sending Sender → Type 0) → Sends s (length buffers) (length output)
-    → toSend s.counters ≡ true → P (goes s buffers)
-    → P (sendingOf (dueSent s) (laid output 0 (heldBytes s buffers (dueSlot s.counters))))
-unfolding heldContent
+    → to_send s.counters ≡ true → P (goes s buffers)
+    → P (sending_of (due_sent s) (laid output 0 (held_bytes s buffers (due_slot s.counters))))
+unfolding held_content
 goes-out s buffers output P o t p =
     let c = s.counters in
-    let i = dueSlot c in
-    let held = heldBytes s buffers i in
-    let most = (stored-slot s c.point o.sound.slots (ltb-true c.point c.stored t)).most in
+    let i = due_slot c in
+    let held = held_bytes s buffers i in
+    let most = (stored_slot s c.point o.sound.slots (ltb-true c.point c.stored t)).most in
     let n = held-length s buffers i o.buffers (omega arith) most in
-    let same : take (heldLength s i) (laid output 0 held) ≡ held =
-    ap (λ (k : ℕ). take k (laid output 0 held)) (sym n) ∙ laid-front output held in
+    let same : take (held_length s i) (laid output 0 held) ≡ held =
+    ap (λ (k : ℕ). take k (laid output 0 held)) (sym n) ∙ laid_front output held in
     subst
     (λ (l : List ℕ).
     P
     (record {
       sent = true;
-      number = sendPoint c;
+      number = send_point c;
       content = record { channel = get_or s.slots.channels i 0; bad = get_or s.slots.bad i false; bytes = l };
-      state = record { counters = oneSent c; slots = s.slots };
+      state = record { counters = one_sent c; slots = s.slots };
     }))
     (sym same) p
 
 pub send-either :
     (s : Sender) (buffers output : List ℕ) (P : Sending Sender → Type 0)
-    → (refusalOf (sendChecks s (length buffers) (length output)) ≡ 0 → toSend s.counters ≡ true → P (goes s buffers))
-    → ((refusalOf (sendChecks s (length buffers) (length output)) ≡ 0 → toSend s.counters ≡ true → ⊥) → P (stays s))
+    → (refusal_of (send_checks s (length buffers) (length output)) ≡ 0 → to_send s.counters ≡ true → P (goes s buffers))
+    → ((refusal_of (send_checks s (length buffers) (length output)) ≡ 0 → to_send s.counters ≡ true → ⊥) → P (stays s))
     → P (ours.send s buffers output)
-unfolding sendOf sendOutput
+unfolding send_of send_output
 send-either s buffers output P f g =
-    let cs = sendChecks s (length buffers) (length output) in
-    by_one (λ (a : Sent) (l : List ℕ). P (sendingOf a l)) (eqb (refusalOf cs) 0)
+    let cs = send_checks s (length buffers) (length output) in
+    by_one (λ (a : Sent) (l : List ℕ). P (sending_of a l)) (eqb (refusal_of cs) 0)
     (λ t.
-    let q = eqb-true (refusalOf cs) 0 t in
-    by_one (λ (a : Sent) (l : List ℕ). P (sendingOf a l)) (toSend s.counters)
-    (λ u. goes-out s buffers output P (send-seen s (length buffers) (length output) q) u (f q u))
-    (λ u. g (λ _ v. absurd (true-is-not-false u v))))
-    (λ t. g (λ q _. eqb-false (refusalOf cs) 0 t q))
+    let q = eqb-true (refusal_of cs) 0 t in
+    by_one (λ (a : Sent) (l : List ℕ). P (sending_of a l)) (to_send s.counters)
+    (λ u. goes-out s buffers output P (send_seen s (length buffers) (length output) q) u (f q u))
+    (λ u. g (λ _ v. absurd (true_is_not_false u v))))
+    (λ t. g (λ q _. eqb-false (refusal_of cs) 0 t q))
 
 -- an arrival
 abbrev pub drops : Receiver → Arriving Receiver
-drops r = record { answered = false; reply = ack 0; delivered = false; content = noContent; state = r }
+drops r = record { answered = false; reply = ack 0; delivered = false; content = no_content; state = r }
 
 abbrev pub takes : Receiver → ℕ → Content → Arriving Receiver
 takes r k x = record { answered = true; reply = ack k; delivered = true; content = x; state = advanced r }
 
 abbrev pub repeats : Receiver → ℕ → Arriving Receiver
-repeats r k = record { answered = true; reply = ack k; delivered = false; content = noContent; state = r }
+repeats r k = record { answered = true; reply = ack k; delivered = false; content = no_content; state = r }
 
 abbrev pub denies : Receiver → Arriving Receiver
-denies r = record { answered = true; reply = nack r.expected; delivered = false; content = noContent; state = r }
+denies r = record { answered = true; reply = nack r.expected; delivered = false; content = no_content; state = r }
 
 pub arrive-either :
     (r : Receiver) (k : ℕ) (x : Content) (room : Bool) (output : List ℕ) (P : Arriving Receiver → Type 0)
-    → ((refusalOf (arrivalChecks r k x.channel (length x.bytes) room (length output)) ≡ 0 → ⊥) → P (drops r))
+    → ((refusal_of (arrival_checks r k x.channel (length x.bytes) room (length output)) ≡ 0 → ⊥) → P (drops r))
     → (k ≡ r.expected → room ≡ true → P (takes r k x))
-    → ((k ≡ r.expected → ⊥) → amongLast r.received r.expected k ≡ true → P (repeats r k))
+    → ((k ≡ r.expected → ⊥) → among_last r.received r.expected k ≡ true → P (repeats r k))
     → ((k ≡ r.expected → room ≡ true → ⊥)
-    → ((k ≡ r.expected → ⊥) → amongLast r.received r.expected k ≡ true → ⊥)
+    → ((k ≡ r.expected → ⊥) → among_last r.received r.expected k ≡ true → ⊥)
     → P (denies r))
     → P (ours.arrive r (segment k x) room output)
-unfolding arriving arrivalOf arrivalOutput answerTo
+unfolding arriving arrival_of arrival_output answer_to
 arrive-either r k x room output P f g h i =
     let n = length x.bytes in
-    let cs = arrivalChecks r k x.channel n room (length output) in
-    let Q : Arrived → List ℕ → Type 0 = λ a l. P (arrivingOf a l) in
-    by_one Q (eqb (refusalOf cs) 0)
+    let cs = arrival_checks r k x.channel n room (length output) in
+    let Q : Arrived → List ℕ → Type 0 = λ a l. P (arriving_of a l) in
+    by_one Q (eqb (refusal_of cs) 0)
     (λ t. by_cases (λ (a : Arrived). Q a (cond (eqb k r.expected && room) (laid output 0 x.bytes) output)) (eqb k r.expected)
     (λ u. by_cases (λ (a : Arrived). Q a (cond (eqb k r.expected && room) (laid output 0 x.bytes) output)) room
     (λ v.
@@ -173,62 +173,62 @@ arrive-either r k x room output P f g h i =
       content = record { channel = x.channel; bad = x.bad; bytes = l };
       state = advanced r;
     }))
-    (sym (laid-front output x.bytes)) (g (eqb-true k r.expected u) v)))
-    (λ v. i (λ _ z. true-is-not-false v z) (λ ne _. ne (eqb-true k r.expected u))))
-    (λ u. by_cases (λ (a : Arrived). Q a (cond (eqb k r.expected && room) (laid output 0 x.bytes) output)) (amongLast r.received r.expected k)
-    (λ v. h (eqb-false k r.expected u) v) (λ v. i (λ e _. eqb-false k r.expected u e) (λ _ z. true-is-not-false v z))))
+    (sym (laid_front output x.bytes)) (g (eqb-true k r.expected u) v)))
+    (λ v. i (λ _ z. true_is_not_false v z) (λ ne _. ne (eqb-true k r.expected u))))
+    (λ u. by_cases (λ (a : Arrived). Q a (cond (eqb k r.expected && room) (laid output 0 x.bytes) output)) (among_last r.received r.expected k)
+    (λ v. h (eqb-false k r.expected u) v) (λ v. i (λ e _. eqb-false k r.expected u e) (λ _ z. true_is_not_false v z))))
     (λ t. subst
     (λ (b : Bool).
-    P (record { answered = b; reply = ack 0; delivered = false; content = noContent; state = r }))
-    (sym t) (f (eqb-false (refusalOf cs) 0 t)))
+    P (record { answered = b; reply = ack 0; delivered = false; content = no_content; state = r }))
+    (sym t) (f (eqb-false (refusal_of cs) 0 t)))
 
 -- a damaged arrival is answered with NACK, since the receiver keeps its rule
-pub damaged-is : (r : Receiver) (room : Bool) (output : List ℕ) → receiverRule r ≡ true → ours.arrive r damaged room output ≡ denies r
+pub damaged_is : (r : Receiver) (room : Bool) (output : List ℕ) → receiver_rule r ≡ true → ours.arrive r damaged room output ≡ denies r
 unfolding arriving
-damaged-is r room output q =
-    ap (λ (a : Arrived). arrivingOf a output) (damaged-arrival-done r q)
+damaged_is r room output q =
+    ap (λ (a : Arrived). arriving_of a output) (damaged_arrival_done r q)
 
 -- replies and ticks: on a link that is up they are heard, on one that is down they change nothing
-pub ack-heard : (s : Sender) (k : ℕ) → Hears s k → hearing s (ack k) ≡ withCounters s (heard s.counters false k)
+pub ack_heard : (s : Sender) (k : ℕ) → Hears s k → hearing s (ack k) ≡ with_counters s (heard s.counters false k)
 unfolding hearing
-ack-heard s k h = ap (λ (a : Answered). a.sender) (reply-done s false k h)
+ack_heard s k h = ap (λ (a : Answered). a.sender) (reply_done s false k h)
 
-pub nack-heard : (s : Sender) (k : ℕ) → Hears s k → hearing s (nack k) ≡ withCounters s (heard s.counters true k)
+pub nack_heard : (s : Sender) (k : ℕ) → Hears s k → hearing s (nack k) ≡ with_counters s (heard s.counters true k)
 unfolding hearing
-nack-heard s k h = ap (λ (a : Answered). a.sender) (reply-done s true k h)
+nack_heard s k h = ap (λ (a : Answered). a.sender) (reply_done s true k h)
 
-pub damaged-heard : (s : Sender) → hearing s damaged-reply ≡ s
-unfolding hearing damagedReplyOf
-damaged-heard s =
+pub damaged_heard : (s : Sender) → hearing s damaged_reply ≡ s
+unfolding hearing damaged_reply_of
+damaged_heard s =
     by_cases (λ (a : Answered). a.sender ≡ s)
-    (eqb (refusalOf (senderChecks s)) 0) {x = record { refusal = 0; sender = s }} {y = refusedSender s (refusalOf (senderChecks s))} (λ _. refl)
+    (eqb (refusal_of (sender_checks s)) 0) {x = record { refusal = 0; sender = s }} {y = refused_sender s (refusal_of (sender_checks s))} (λ _. refl)
     (λ _. refl)
 
-pub ticks : (s : Sender) → Sound s → (tickOf s).sender ≡ withCounters s (ticked s.counters)
+pub ticks : (s : Sender) → Sound s → (tick_of s).sender ≡ with_counters s (ticked s.counters)
 ticks s h = ap (λ (a : Ticked). a.sender) (tick-done s h)
 
 -- a tick says whether it took the link down
-pub tick-fell : (s : Sender) → Sound s → (tickOf s).fell ≡ isDown (tickOf s).sender.counters
-tick-fell s h =
-    ap (λ (a : Ticked). a.fell) (tick-done s h) ∙ sym (ap (λ (a : Ticked). isDown a.sender.counters) (tick-done s h))
+pub tick_fell : (s : Sender) → Sound s → (tick_of s).fell ≡ is_down (tick_of s).sender.counters
+tick_fell s h =
+    ap (λ (a : Ticked). a.fell) (tick-done s h) ∙ sym (ap (λ (a : Ticked). is_down a.sender.counters) (tick-done s h))
 
 module _ (s : Sender) (down : s.counters.link ≡ 2) where
-  refused-tick : tickOf s ≡ refusedTick s (refusalOf (senderChecks s))
-  unfolding tickOf
-  refused-tick = refused (senderChecks s) (refusedTick s) _ (λ q. omega (arith, down, (sender-seen s q).up))
+  refused_tick_lem : tick_of s ≡ refused_tick s (refusal_of (sender_checks s))
+  unfolding tick_of
+  refused_tick_lem = refused (sender_checks s) (refused_tick s) _ (λ q. omega (arith, down, (sender_seen s q).up))
 
-  pub down-fell : (tickOf s).fell ≡ false
-  down-fell = ap (λ (a : Ticked). a.fell) refused-tick
+  pub down_fell : (tick_of s).fell ≡ false
+  down_fell = ap (λ (a : Ticked). a.fell) refused_tick_lem
 
-  pub down-reply : (y : Reply) → hearing s y ≡ s
-  unfolding hearing replyOf
-  down-reply (ack k) =
+  pub down_reply : (y : Reply) → hearing s y ≡ s
+  unfolding hearing reply_of
+  down_reply (ack k) =
       ap (λ (a : Answered). a.sender)
-      (refused (replyChecks s k) (refusedSender s) _ (λ q. omega (arith, down, (reply-seen s k q).sound.up)))
-  down-reply (nack k) =
+      (refused (reply_checks s k) (refused_sender s) _ (λ q. omega (arith, down, (reply_seen s k q).sound.up)))
+  down_reply (nack k) =
       ap (λ (a : Answered). a.sender)
-      (refused (replyChecks s k) (refusedSender s) _ (λ q. omega (arith, down, (reply-seen s k q).sound.up)))
-  down-reply damaged-reply = damaged-heard s
+      (refused (reply_checks s k) (refused_sender s) _ (λ q. omega (arith, down, (reply_seen s k q).sound.up)))
+  down_reply damaged_reply = damaged_heard s
 
-  pub down-tick : (tickOf s).sender ≡ s
-  down-tick = ap (λ (a : Ticked). a.sender) refused-tick
+  pub down_tick : (tick_of s).sender ≡ s
+  down_tick = ap (λ (a : Ticked). a.sender) refused_tick_lem

@@ -45,10 +45,10 @@ module _ {A : Type 0} where
     snoc a j x lo u hi (skip q r) = skip q (snoc a j x lo u hi r)
     snoc a j x lo u hi (item i y lo' hi' r) = item i y lo' hi' (snoc a j x (omega arith) u hi r)
 
-    pub snoc-skip : {U b : ℕ} {l : List A} (a : A) → Q a → Line R Q U b l → Line R Q U b (l ++ a ∷ [])
-    snoc-skip a q empty = skip q empty
-    snoc-skip a q (skip q' r) = skip q' (snoc-skip a q r)
-    snoc-skip a q (item i y lo hi r) = item i y lo hi (snoc-skip a q r)
+    pub snoc_skip : {U b : ℕ} {l : List A} (a : A) → Q a → Line R Q U b l → Line R Q U b (l ++ a ∷ [])
+    snoc_skip a q empty = skip q empty
+    snoc_skip a q (skip q' r) = skip q' (snoc_skip a q r)
+    snoc_skip a q (item i y lo hi r) = item i y lo hi (snoc_skip a q r)
 
     -- what is lost or damaged counts for nothing
     pub lost : {U b : ℕ} {l : List A} (n : ℕ) → Line R Q U b l → Line R Q U b (without l n)
@@ -58,12 +58,12 @@ module _ {A : Type 0} where
     lost zero (item i y lo hi r) = lower (omega arith) (omega arith) r
     lost (suc n) (item i y lo hi r) = item i y lo hi (lost n r)
 
-    pub damaged-at : {U b : ℕ} {l : List A} (n : ℕ) (a : A) → Q a → Line R Q U b l → Line R Q U b (set l n a)
-    damaged-at n a q empty = empty
-    damaged-at zero a q (skip q' r) = skip q r
-    damaged-at (suc n) a q (skip q' r) = skip q' (damaged-at n a q r)
-    damaged-at {b} zero a q (item i y lo hi r) = skip {b = b} q (lower (omega arith) (omega arith) r)
-    damaged-at (suc n) a q (item i y lo hi r) = item i y lo hi (damaged-at n a q r)
+    pub damaged_at : {U b : ℕ} {l : List A} (n : ℕ) (a : A) → Q a → Line R Q U b l → Line R Q U b (set l n a)
+    damaged_at n a q empty = empty
+    damaged_at zero a q (skip q' r) = skip q r
+    damaged_at (suc n) a q (skip q' r) = skip q' (damaged_at n a q r)
+    damaged_at {b} zero a q (item i y lo hi r) = skip {b = b} q (lower (omega arith) (omega arith) r)
+    damaged_at (suc n) a q (item i y lo hi r) = item i y lo hi (damaged_at n a q r)
 
     pub tail : {U b : ℕ} {a : A} {l : List A} → Line R Q U b (a ∷ l) → Line R Q U b l
     tail (skip q r) = r

@@ -8,52 +8,52 @@ use native.Mathlib.Omega.{arith}
 use borrow.Author.Tests.{ltb-true}
 use lib.Dec.{ltb}
 use lib.ListN.{length, length-append}
-use Rattle.laws.proofs.Cases.{by_cases, first-true, second-true}
-use Rattle.delivery_rules.specs.Ends.{Item, Reply, ack, nack, damaged-reply, Ends}
-use Rattle.delivery_rules.specs.Outside.{isNext, Seen, isUp, outstanding, isRunning, isOldest, is_last, goneWith, seenWith, seenReply, seenTick}
+use Rattle.laws.proofs.Cases.{by_cases, first_true, second_true}
+use Rattle.delivery_rules.specs.Ends.{Item, Reply, ack, nack, damaged_reply, Ends}
+use Rattle.delivery_rules.specs.Outside.{is_next, Seen, is_up, outstanding, is_running, is_oldest, is_last, gone_with, seen_with, seen_reply, seen_tick}
 use Rattle.delivery_rules.specs.Model.{Event, offer, send, arrive, lose, damage, hear, lose-reply, damage-reply, tick, joined, World, arrives, hears, step, run}
 use Rattle.delivery_rules.specs.Demand.{Moment, at}
 
 pub record Ordered (g : Seen) : Type 0 where
-  pub released-le : g.released ≤ g.gone
-  pub gone-le : g.gone ≤ length g.accepted
+  pub released_le : g.released ≤ g.gone
+  pub gone_le : g.gone ≤ length g.accepted
 
 -- something is outstanding where the timer runs
-pub running : (g : Seen) → isRunning g ≡ true → 0 < outstanding g
-running g q = ltb-true 0 (outstanding g) (second-true (isUp g) (ltb 0 (outstanding g)) q)
+pub running : (g : Seen) → is_running g ≡ true → 0 < outstanding g
+running g q = ltb-true 0 (outstanding g) (second_true (is_up g) (ltb 0 (outstanding g)) q)
 
-reply-ordered : (g : Seen) (y : Reply) → Ordered g → Ordered (seenReply g y)
-unfolding seenReply
-reply-ordered g (ack k) o =
-    by_cases Ordered (isOldest g k)
+reply_ordered : (g : Seen) (y : Reply) → Ordered g → Ordered (seen_reply g y)
+unfolding seen_reply
+reply_ordered g (ack k) o =
+    by_cases Ordered (is_oldest g k)
     (λ t.
-    let some = running g (first-true (isRunning g) _ t) in
-    record { released-le = omega arith; gone-le = o.gone-le })
+    let some = running g (first_true (is_running g) _ t) in
+    record { released_le = omega arith; gone_le = o.gone_le })
     (λ _. o)
-reply-ordered g (nack k) o =
-    by_cases Ordered (isOldest g k) (λ _. record { released-le = o.released-le; gone-le = o.gone-le }) (λ _. o)
-reply-ordered g damaged-reply o = o
+reply_ordered g (nack k) o =
+    by_cases Ordered (is_oldest g k) (λ _. record { released_le = o.released_le; gone_le = o.gone_le }) (λ _. o)
+reply_ordered g damaged_reply o = o
 
-tick-ordered : (g : Seen) → Ordered g → Ordered (seenTick g)
-unfolding seenTick
-tick-ordered g o =
-    let same : (t x : ℕ) → Ordered (seenWith g g.gone g.released t x) = λ t x.
-    record { released-le = o.released-le; gone-le = o.gone-le } in
-    by_cases Ordered (isRunning g)
+tick_ordered : (g : Seen) → Ordered g → Ordered (seen_tick g)
+unfolding seen_tick
+tick_ordered g o =
+    let same : (t x : ℕ) → Ordered (seen_with g g.gone g.released t x) = λ t x.
+    record { released_le = o.released_le; gone_le = o.gone_le } in
+    by_cases Ordered (is_running g)
     (λ _. by_cases Ordered (is_last g) (λ _. same 0 (g.expiries + 1)) (λ _. same (g.ticks + 1) g.expiries))
     (λ _. o)
 
 -- one more has gone out, or none
 gone-ordered :
     (g : Seen) (b : Bool) (k : ℕ) → Ordered g
-    → (g.gone ≤ cond b (goneWith g k) g.gone) × (cond b (goneWith g k) g.gone ≤ length g.accepted)
-unfolding goneWith
+    → (g.gone ≤ cond b (gone_with g k) g.gone) × (cond b (gone_with g k) g.gone ≤ length g.accepted)
+unfolding gone_with
 gone-ordered g b k o =
     let P : ℕ → Type 0 = λ n. (g.gone ≤ n) × (n ≤ length g.accepted) in
     by_cases P b
-    (λ _. by_cases P (isNext g k)
+    (λ _. by_cases P (is_next g k)
     (λ t.
-    let lt = ltb-true g.gone (length g.accepted) (first-true (ltb g.gone (length g.accepted)) _ t) in
+    let lt = ltb-true g.gone (length g.accepted) (first_true (ltb g.gone (length g.accepted)) _ t) in
     omega arith)
     (λ _. omega arith))
     (λ _. omega arith)
@@ -66,33 +66,33 @@ module _ (E : Ends) where
   arrives-ordered :
       (w : World E) (room : Bool) (output : List ℕ) (l : List Item) → Ordered w.seen → Ordered (arrives E w room output l).seen
   arrives-ordered w room output [] o = o
-  arrives-ordered w room output (i ∷ l) o = record { released-le = o.released-le; gone-le = o.gone-le }
+  arrives-ordered w room output (i ∷ l) o = record { released_le = o.released_le; gone_le = o.gone_le }
 
-  hears-ordered : (w : World E) (l : List Reply) → Ordered w.seen → Ordered (hears E w l).seen
-  hears-ordered w [] o = o
-  hears-ordered w (y ∷ l) o = reply-ordered w.seen y o
+  hears_ordered : (w : World E) (l : List Reply) → Ordered w.seen → Ordered (hears E w l).seen
+  hears_ordered w [] o = o
+  hears_ordered w (y ∷ l) o = reply_ordered w.seen y o
 
-  step-ordered : (e : Event) (w : World E) → Ordered w.seen → Ordered (step E e w).seen
+  step_ordered : (e : Event) (w : World E) → Ordered w.seen → Ordered (step E e w).seen
   unfolding step
-  step-ordered (offer x) w o =
+  step_ordered (offer x) w o =
       let a = E.offer w.sender w.buffers x in
-      record { released-le = o.released-le; gone-le = omega (arith, longer w.seen.accepted a.accepted x) }
-  step-ordered (send output) w o =
+      record { released_le = o.released_le; gone_le = omega (arith, longer w.seen.accepted a.accepted x) }
+  step_ordered (send output) w o =
       let a = E.send w.sender w.buffers output in
       let z = gone-ordered w.seen a.sent a.number o in
-      record { released-le = omega (arith, z.0, o.released-le); gone-le = z.1 }
-  step-ordered (arrive room output) w o = arrives-ordered w room output w.forward o
-  step-ordered (lose n) w o = o
-  step-ordered (damage n) w o = o
-  step-ordered hear w o = hears-ordered w w.backward o
-  step-ordered (lose-reply n) w o = o
-  step-ordered (damage-reply n) w o = o
-  step-ordered tick w o = tick-ordered w.seen o
+      record { released_le = omega (arith, z.0, o.released_le); gone_le = z.1 }
+  step_ordered (arrive room output) w o = arrives-ordered w room output w.forward o
+  step_ordered (lose n) w o = o
+  step_ordered (damage n) w o = o
+  step_ordered hear w o = hears_ordered w w.backward o
+  step_ordered (lose-reply n) w o = o
+  step_ordered (damage-reply n) w o = o
+  step_ordered tick w o = tick_ordered w.seen o
 
-  pub run-ordered : (es : List Event) (w : World E) → Ordered w.seen → Ordered (run E es w).seen
+  pub run_ordered : (es : List Event) (w : World E) → Ordered w.seen → Ordered (run E es w).seen
   unfolding run
-  run-ordered [] w o = o
-  run-ordered (e ∷ es) w o = run-ordered es (step E e w) (step-ordered e w o)
+  run_ordered [] w o = o
+  run_ordered (e ∷ es) w o = run_ordered es (step E e w) (step_ordered e w o)
 
-  pub moment-ordered : (m : Moment E) → Ordered (at E m).seen
-  moment-ordered m = run-ordered m.events _ (record { released-le = omega arith; gone-le = omega arith })
+  pub moment_ordered : (m : Moment E) → Ordered (at E m).seen
+  moment_ordered m = run_ordered m.events _ (record { released_le = omega arith; gone_le = omega arith })

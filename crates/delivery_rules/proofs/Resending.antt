@@ -11,13 +11,13 @@ use lib.Seq.{take_all}
 use borrow.Author.Tests.{eqb-true, eqb-false}
 use Rattle.laws.proofs.Cases.{by_cases}
 use Rattle.retry_rules.specs.Lent.{Content}
-use Rattle.delivery_rules.specs.Ends.{Item, segment, damaged, Reply, ack, nack, damaged-reply, Ends}
-use Rattle.delivery_rules.specs.Outside.{Seen, outstanding, ticksLeft, seenReply}
+use Rattle.delivery_rules.specs.Ends.{Item, segment, damaged, Reply, ack, nack, damaged_reply, Ends}
+use Rattle.delivery_rules.specs.Outside.{Seen, outstanding, ticks_left, seen_reply}
 use Rattle.delivery_rules.specs.Model.{Event, offer, send, arrive, lose, damage, hear, lose-reply, damage-reply, tick, World, arrived, arrives, told, hears, step, run}
-use Rattle.delivery_rules.specs.Demand.{noContent, AllGood, FirstSoMany, Empty, NoExpiry, expireOnce, Fits, SendsEach, Drill, drilled, Recovered}
+use Rattle.delivery_rules.specs.Demand.{no_content, AllGood, FirstSoMany, Empty, NoExpiry, expire_once, Fits, SendsEach, Drill, drilled, Recovered}
 use Rattle.delivery_rules.proofs.Sequence.{Sequence, done, first_of, none_left}
-use Rattle.delivery_rules.proofs.Seeing.{plain-tick, expiry}
-use Rattle.delivery_rules.proofs.Calms.{calm_run, sends-calm, sends-le, expired}
+use Rattle.delivery_rules.proofs.Seeing.{plain_tick_lem, expiry}
+use Rattle.delivery_rules.proofs.Calms.{calm_run, sends_calm, sends_le, expired}
 use Rattle.delivery_rules.proofs.Invariant.{IsItem, IsAck}
 
 -- ends, what holds of them at every moment, and where their send point is: how many accepted segments lie before the next to go
@@ -40,7 +40,7 @@ module _ (E : Ends) (Inv : World E → Type 0) (point : World E → ℕ) where
     pub low : (w : World E) → Inv w → w.seen.released ≤ length w.seen.delivered
     pub sends :
         (w : World E) (j : ℕ) (output : List ℕ) → Resending j w → j < length w.seen.accepted
-        → length (get_or w.seen.accepted j noContent).bytes ≤ length output → Resending (suc j) (step E (send output) w)
+        → length (get_or w.seen.accepted j no_content).bytes ≤ length output → Resending (suc j) (step E (send output) w)
     pub arrives_at :
         (w : World E) (j k : ℕ) (x : Content) (rest : List Item) (output : List ℕ) (r : Resending j w)
         → IsItem w.seen.accepted (segment k x) r.b → Sequence (IsItem w.seen.accepted) (suc r.b) j rest
@@ -49,12 +49,12 @@ module _ (E : Ends) (Inv : World E → Type 0) (point : World E → ℕ) where
     pub hears-ack :
         (w : World E) (j k : ℕ) (rest : List Reply) (r : Resending j w) → k ≡ w.seen.released % 16
         → Sequence IsAck (suc w.seen.released) r.b rest
-        → Inv (told E w (E.hear w.sender (ack k)) rest (seenReply w.seen (ack k)))
-        → Resending j (told E w (E.hear w.sender (ack k)) rest (seenReply w.seen (ack k)))
-    pub ticks-on : (w : World E) (j : ℕ) → Resending j w → NoExpiry E w → Resending j (step E tick w)
+        → Inv (told E w (E.hear w.sender (ack k)) rest (seen_reply w.seen (ack k)))
+        → Resending j (told E w (E.hear w.sender (ack k)) rest (seen_reply w.seen (ack k)))
+    pub ticks_on : (w : World E) (j : ℕ) → Resending j w → NoExpiry E w → Resending j (step E tick w)
     -- with nothing outstanding, and after an expiry, the oldest is the next to go
     pub at_rest : (w : World E) → Inv w → w.seen.gone ≤ w.seen.released → point w ≡ w.seen.released
-    pub time-left : (w : World E) → Inv w → w.seen.ticks < w.seen.columns
+    pub time_left : (w : World E) → Inv w → w.seen.ticks < w.seen.columns
     pub at-expiry :
         (w : World E) → Inv w → w.seen.expiries < 2 → w.seen.released < w.seen.gone → w.seen.ticks + 1 ≡ w.seen.columns
         → point (step E tick w) ≡ w.seen.released
@@ -79,7 +79,7 @@ module _ (E : Ends) (Inv : World E → Type 0) (point : World E → ℕ) where
     hearing-next w j [] r q inv = r
     hearing-next w j (ack k ∷ rest) r q inv = R.hears-ack w j k rest r (first_of q).0 (first_of q).1 inv
     hearing-next w j (nack k ∷ rest) r q inv = absurd (first_of q).0
-    hearing-next w j (damaged-reply ∷ rest) r q inv = absurd (first_of q).0
+    hearing-next w j (damaged_reply ∷ rest) r q inv = absurd (first_of q).0
 
     -- at its end all that was accepted has been sent, has arrived and is released
     record Finished (w : World E) : Type 0 where
@@ -94,24 +94,24 @@ module _ (E : Ends) (Inv : World E → Type 0) (point : World E → ℕ) where
         let b = none_left (subst (λ (l : List Reply). Sequence IsAck w.seen.released r.b l) e.1 r.replies) in
         record { inv = r.inv; few = r.few; all-released = b ∙ a ∙ q; all-delivered = omega (arith, a, r.delivered) }
 
-    sent-each : (es : List Event) (j : ℕ) (w : World E) → SendsEach E j es w → Resending j w → Finished (run E es w)
+    sent_each : (es : List Event) (j : ℕ) (w : World E) → SendsEach E j es w → Resending j w → Finished (run E es w)
     unfolding run SendsEach step
-    sent-each [] j w c r = finished j w r c.0 c.1
-    sent-each (send output ∷ es) j w c r =
-        let lt = sends-le E es (suc j) (step E (send output) w) c.1 in
-        sent-each es (suc j) (step E (send output) w) c.1 (R.sends w j output r lt c.0)
-    sent-each (arrive room output ∷ es) j w c r =
+    sent_each [] j w c r = finished j w r c.0 c.1
+    sent_each (send output ∷ es) j w c r =
+        let lt = sends_le E es (suc j) (step E (send output) w) c.1 in
+        sent_each es (suc j) (step E (send output) w) c.1 (R.sends w j output r lt c.0)
+    sent_each (arrive room output ∷ es) j w c r =
         let next = arrival-next w j w.forward output r r.items c.1 (R.keeps (arrive true output) w r.inv) in
-        sent-each es j (step E (arrive room output) w) c.2
+        sent_each es j (step E (arrive room output) w) c.2
         (subst (λ (b : Bool). Resending j (arrives E w b output w.forward)) (sym c.0) next)
-    sent-each (hear ∷ es) j w c r =
-        sent-each es j (step E hear w) c (hearing-next w j w.backward r r.replies (R.keeps hear w r.inv))
-    sent-each (tick ∷ es) j w c r = sent-each es j (step E tick w) c.1 (R.ticks-on w j r c.0)
-    sent-each (offer x ∷ es) j w c r = absurd c
-    sent-each (lose n ∷ es) j w c r = absurd c
-    sent-each (damage n ∷ es) j w c r = absurd c
-    sent-each (lose-reply n ∷ es) j w c r = absurd c
-    sent-each (damage-reply n ∷ es) j w c r = absurd c
+    sent_each (hear ∷ es) j w c r =
+        sent_each es j (step E hear w) c (hearing-next w j w.backward r r.replies (R.keeps hear w r.inv))
+    sent_each (tick ∷ es) j w c r = sent_each es j (step E tick w) c.1 (R.ticks_on w j r c.0)
+    sent_each (offer x ∷ es) j w c r = absurd c
+    sent_each (lose n ∷ es) j w c r = absurd c
+    sent_each (damage n ∷ es) j w c r = absurd c
+    sent_each (lose-reply n ∷ es) j w c r = absurd c
+    sent_each (damage-reply n ∷ es) j w c r = absurd c
 
     -- before it: both lines empty, the send point at the oldest
     record Ready (w : World E) : Type 0 where
@@ -134,10 +134,10 @@ module _ (E : Ends) (Inv : World E → Type 0) (point : World E → ℕ) where
 
     -- the expiry: so many ticks as are left
     expires :
-        (k : ℕ) (w : World E) → Inv w → Empty E w → w.seen.expiries < 2 → w.seen.released < w.seen.gone → ticksLeft w.seen ≡ k
+        (k : ℕ) (w : World E) → Inv w → Empty E w → w.seen.expiries < 2 → w.seen.released < w.seen.gone → ticks_left w.seen ≡ k
         → Ready (run E (replicate k tick) w)
     unfolding run step
-    expires zero w v e x o t = absurd (omega (arith, R.time-left w v))
+    expires zero w v e x o t = absurd (omega (arith, R.time_left w v))
     expires (suc zero) w v e x o t =
         let last : w.seen.ticks + 1 ≡ w.seen.columns = omega arith in
         let is = expiry w.seen (omega arith) o last in
@@ -148,13 +148,13 @@ module _ (E : Ends) (Inv : World E → Type 0) (point : World E → ℕ) where
           empty = e;
         }
     expires (suc (suc n)) w v e x o t =
-        let is = plain-tick w.seen (omega arith) o (λ q. omega arith) in
+        let is = plain_tick_lem w.seen (omega arith) o (λ q. omega arith) in
         expires (suc n) (step E tick w) (R.keeps tick w v) e (omega (arith, ap (λ (g : Seen). g.expiries) is))
-        (omega (arith, ap (λ (g : Seen). g.released) is, ap (λ (g : Seen). g.gone) is)) (ap ticksLeft is ∙ omega arith)
+        (omega (arith, ap (λ (g : Seen). g.released) is, ap (λ (g : Seen). g.gone) is)) (ap ticks_left is ∙ omega arith)
 
-    expires-once : (w : World E) → Inv w → Empty E w → w.seen.expiries < 2 → Ready (expireOnce E w)
-    unfolding expireOnce
-    expires-once w v e x =
+    expires_once : (w : World E) → Inv w → Empty E w → w.seen.expiries < 2 → Ready (expire_once E w)
+    unfolding expire_once
+    expires_once w v e x =
         by_cases Ready (eqb (outstanding w.seen) 0)
         (λ t. record {
           inv = v;
@@ -162,27 +162,27 @@ module _ (E : Ends) (Inv : World E → Type 0) (point : World E → ℕ) where
           oldest = R.at_rest w v (omega (arith, eqb-true (outstanding w.seen) 0 t));
           empty = e;
         })
-        (λ t. expires (ticksLeft w.seen) w v e x (omega (arith, eqb-false (outstanding w.seen) 0 t)) refl)
+        (λ t. expires (ticks_left w.seen) w v e x (omega (arith, eqb-false (outstanding w.seen) 0 t)) refl)
 
-    run-keeps : (es : List Event) (w : World E) → Inv w → Inv (run E es w)
+    run_keeps : (es : List Event) (w : World E) → Inv w → Inv (run E es w)
     unfolding run
-    run-keeps [] w v = v
-    run-keeps (e ∷ es) w v = run-keeps es (step E e w) (R.keeps e w v)
+    run_keeps [] w v = v
+    run_keeps (e ∷ es) w v = run_keeps es (step E e w) (R.keeps e w v)
 
-    pub drill-recovers : (w : World E) → Inv w → w.seen.expiries < 2 → (d : Drill E w) → Recovered E S w (drilled E w d)
-    drill-recovers w v x d =
+    pub drill_recovers : (w : World E) → Inv w → w.seen.expiries < 2 → (d : Drill E w) → Recovered E S w (drilled E w d)
+    drill_recovers w v x d =
         let emptied = run E d.emptying w in
         let calm = calm_run E d.emptying w d.calm in
-        let ready = expireOnce E emptied in
-        let again = resending ready (expires-once emptied (run-keeps d.emptying w v) d.empty (omega (arith, calm.expiries))) in
-        let sends = calm_run E d.sending ready (sends-calm E d.sending ready.seen.released ready d.each) in
+        let ready = expire_once E emptied in
+        let again = resending ready (expires_once emptied (run_keeps d.emptying w v) d.empty (omega (arith, calm.expiries))) in
+        let sends = calm_run E d.sending ready (sends_calm E d.sending ready.seen.released ready d.each) in
         let end = drilled E w d in
-        let f = sent-each d.sending ready.seen.released ready d.each again in
+        let f = sent_each d.sending ready.seen.released ready d.each again in
         record {
           all =
               R.prefix end f.inv ∙ take_all (length end.seen.delivered) end.seen.accepted f.all-delivered ∙ sends.accepted
               ∙ (expired E emptied).accepted
               ∙ calm.accepted;
-          none-stored = omega (arith, f.all-released);
+          none_stored = omega (arith, f.all-released);
           eight-free = λ xs eight good. R.accepts end f.inv f.few f.all-released xs eight good;
         }

@@ -14,10 +14,10 @@ use Rattle.delivery_rules.specs.Demand.{AllGood, at, Delivers}
 use Rattle.delivery_rules.specs.Ours.{ours}
 use Rattle.delivery_rules.proofs.Calls.{offer-either}
 use Rattle.delivery_rules.proofs.Invariant.{Inv, numbers, up}
-use Rattle.delivery_rules.proofs.Safety.{sender-begins, receiver-begins, step-inv, moment-inv, first-so-many}
-use Rattle.delivery_rules.proofs.Drills.{can-drill}
-use Rattle.delivery_rules.proofs.Resending.{Resends, drill-recovers}
-use Rattle.delivery_rules.proofs.Recovery.{point_of, sends-next, arrives-next, hears-next, ticks-on, at-expiry}
+use Rattle.delivery_rules.proofs.Safety.{sender_begins, receiver_begins, step_inv, moment_inv, first_so_many}
+use Rattle.delivery_rules.proofs.Drills.{can_drill}
+use Rattle.delivery_rules.proofs.Resending.{Resends, drill_recovers}
+use Rattle.delivery_rules.proofs.Recovery.{point_of, sends_next, arrives-next, hears-next, ticks_on, at-expiry}
 
 -- good offers are accepted while fewer than eight are stored
 accepts :
@@ -38,28 +38,28 @@ accepts S (y ∷ xs) w v x h g =
     (record {
       sound = up S w v (omega arith);
       buffers = lent;
-      channel-lt = good.channel-lt;
+      channel_lt = good.channel_lt;
       most = most;
       some = good.some;
       free = omega arith;
     })))
-    (step-inv S (offer y) w v)
+    (step_inv S (offer y) w v)
 
 resends : (S : ℕ) → Resends ours (Inv S) point_of S
 resends S =
     record {
-      keeps = step-inv S;
+      keeps = step_inv S;
       prefix = λ w v. v.prefix;
       low = λ w v. v.follows.low;
-      sends = sends-next S;
+      sends = sends_next S;
       arrives_at = arrives-next S;
       hears-ack = hears-next S;
-      ticks-on = ticks-on S;
+      ticks_on = ticks_on S;
       at_rest = λ w v none.
           let n = (numbers w.sender v.rule).numbers in
           let u = v.counts in
           omega arith;
-      time-left = λ w v.
+      time_left = λ w v.
           let n = (numbers w.sender v.rule).numbers in
           let u = v.counts in
           omega arith;
@@ -72,8 +72,8 @@ resends S =
 pub delivers : Delivers ours
 delivers =
     record {
-      begins = λ T S lent a. (sender-begins T S lent a, receiver-begins T S lent a);
-      safe = λ m _. first-so-many m;
-      recovers = λ m _ x d. drill-recovers ours (Inv m.S) point_of m.S (resends m.S) (at ours m) (moment-inv m) x d;
-      can-drill = λ m _ _. can-drill ours m;
+      begins = λ T S lent a. (sender_begins T S lent a, receiver_begins T S lent a);
+      safe = λ m _. first_so_many m;
+      recovers = λ m _ x d. drill_recovers ours (Inv m.S) point_of m.S (resends m.S) (at ours m) (moment_inv m) x d;
+      can_drill = λ m _ _. can_drill ours m;
     }

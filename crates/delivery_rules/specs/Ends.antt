@@ -10,7 +10,7 @@ pub data Item : Type 0 where
 
 pub data Reply : Type 0 where
   ack nack : ℕ → Reply
-  damaged-reply : Reply
+  damaged_reply : Reply
 
 -- what each call answers, with the state that it leaves
 pub record Making (A : Type 0) : Type 0 where
@@ -45,8 +45,8 @@ pub record Ends : Type 1 where
   pub Sender : Type 0
   pub Receiver : Type 0
   -- a fresh sender of T and S, a fresh receiver of S
-  pub fresh-sender : ℕ → ℕ → Making Sender
-  pub fresh-receiver : ℕ → Making Receiver
+  pub make_sender : ℕ → ℕ → Making Sender
+  pub make_receiver : ℕ → Making Receiver
   -- given the buffers and what is offered
   pub offer : Sender → List ℕ → Content → Offering Sender
   -- given the buffers and the output

@@ -1,8 +1,8 @@
 -- The model of demand 3: two ends, two lines that keep order, and the events that can happen, in any order.
 use Rattle.std.specs.Prelude.{ℕ, zero, suc, Bool, cond, List, [], ◌∷◌, ◌++◌, set}
 use Rattle.retry_rules.specs.Lent.{Content}
-use Rattle.delivery_rules.specs.Ends.{Item, segment, damaged, Reply, damaged-reply, Offering, Sending, Arriving, Ends}
-use Rattle.delivery_rules.specs.Outside.{Seen, goneWith, seenWith, seenReply, seenTick, seenLists}
+use Rattle.delivery_rules.specs.Ends.{Item, segment, damaged, Reply, damaged_reply, Offering, Sending, Arriving, Ends}
+use Rattle.delivery_rules.specs.Outside.{Seen, gone_with, seen_with, seen_reply, seen_tick, seen_lists}
 
 -- what can happen, in any order. Each output is any lent list, long enough or not; the mark says whether the receiver has room.
 -- A place of a line is counted from the end that arrives next
@@ -43,7 +43,7 @@ module _ (E : Ends) where
         receiver = w.receiver;
         forward = w.forward;
         backward = w.backward;
-        seen = seenLists w.seen (joined w.seen.accepted a.accepted x) w.seen.delivered;
+        seen = seen_lists w.seen (joined w.seen.accepted a.accepted x) w.seen.delivered;
       }
 
   abbrev pub sent : World → Sending E.Sender → World
@@ -55,7 +55,7 @@ module _ (E : Ends) where
         forward = joined w.forward a.sent (segment a.number a.content);
         backward = w.backward;
         seen =
-            seenWith w.seen (cond a.sent (goneWith w.seen a.number) w.seen.gone) w.seen.released
+            seen_with w.seen (cond a.sent (gone_with w.seen a.number) w.seen.gone) w.seen.released
             w.seen.ticks w.seen.expiries;
       }
 
@@ -69,7 +69,7 @@ module _ (E : Ends) where
         receiver = a.state;
         forward = rest;
         backward = joined w.backward a.answered a.reply;
-        seen = seenLists w.seen w.seen.accepted (joined w.seen.delivered a.delivered a.content);
+        seen = seen_lists w.seen w.seen.accepted (joined w.seen.delivered a.delivered a.content);
       }
 
   abbrev pub told : World → E.Sender → List Reply → Seen → World
@@ -101,7 +101,7 @@ module _ (E : Ends) where
 
   abbrev pub hears : World → List Reply → World
   hears w [] = w
-  hears w (y ∷ rest) = told w (E.hear w.sender y) rest (seenReply w.seen y)
+  hears w (y ∷ rest) = told w (E.hear w.sender y) rest (seen_reply w.seen y)
 
   unfoldable pub step : Event → World → World
   step (offer x) w = offered w x (E.offer w.sender w.buffers x)
@@ -111,8 +111,8 @@ module _ (E : Ends) where
   step (damage n) w = lined w (set w.forward n damaged) w.backward
   step hear w = hears w w.backward
   step (lose-reply n) w = lined w w.forward (without w.backward n)
-  step (damage-reply n) w = lined w w.forward (set w.backward n damaged-reply)
-  step tick w = told w (E.tick w.sender) w.backward (seenTick w.seen)
+  step (damage-reply n) w = lined w w.forward (set w.backward n damaged_reply)
+  step tick w = told w (E.tick w.sender) w.backward (seen_tick w.seen)
 
   unfoldable pub run : List Event → World → World
   run [] w = w
@@ -122,9 +122,9 @@ module _ (E : Ends) where
   abbrev pub start : ℕ → ℕ → List ℕ → World
   start T S lent =
       record {
-        sender = (E.fresh-sender T S).state;
+        sender = (E.make_sender T S).state;
         buffers = lent;
-        receiver = (E.fresh-receiver S).state;
+        receiver = (E.make_receiver S).state;
         forward = [];
         backward = [];
         seen = record { columns = T; accepted = []; delivered = []; gone = 0; released = 0; ticks = 0; expiries = 0 };

@@ -2,7 +2,7 @@
 -- and when the timer expires, all counted from the calls and their answers.
 use Rattle.std.specs.Prelude.{ℕ, ◌+◌, ◌-◌, ◌%◌, Bool, cond, ◌&&◌, List, ltb, eqb, length}
 use Rattle.retry_rules.specs.Lent.{Content}
-use Rattle.delivery_rules.specs.Ends.{Reply, ack, nack, damaged-reply}
+use Rattle.delivery_rules.specs.Ends.{Reply, ack, nack, damaged_reply}
 
 pub record Seen : Type 0 where
   -- T, as the fresh sender was given it
@@ -17,8 +17,8 @@ pub record Seen : Type 0 where
   pub expiries : ℕ
 
 -- the third expiry takes the link down
-abbrev pub isUp : Seen → Bool
-isUp g = ltb g.expiries 3
+abbrev pub is_up : Seen → Bool
+is_up g = ltb g.expiries 3
 
 -- sent and not acknowledged; accepted and not acknowledged
 abbrev pub outstanding : Seen → ℕ
@@ -28,28 +28,28 @@ abbrev pub stored : Seen → ℕ
 stored g = length g.accepted - g.released
 
 -- the timer runs while the link is up and something is outstanding
-abbrev pub isRunning : Seen → Bool
-isRunning g = isUp g && ltb 0 (outstanding g)
+abbrev pub is_running : Seen → Bool
+is_running g = is_up g && ltb 0 (outstanding g)
 
 -- a reply with the number k is heard as one to the oldest; the next tick is the T-th
-abbrev pub isOldest : Seen → ℕ → Bool
-isOldest g k = isRunning g && eqb k (g.released % 16)
+abbrev pub is_oldest : Seen → ℕ → Bool
+is_oldest g k = is_running g && eqb k (g.released % 16)
 
 abbrev pub is_last : Seen → Bool
 is_last g = eqb (g.ticks + 1) g.columns
 
-abbrev pub ticksLeft : Seen → ℕ
-ticksLeft g = g.columns - g.ticks
+abbrev pub ticks_left : Seen → ℕ
+ticks_left g = g.columns - g.ticks
 
 -- a send with the number k is of the next segment that has not gone out, if there is one; any other is of one that has
-abbrev pub isNext : Seen → ℕ → Bool
-isNext g k = ltb g.gone (length g.accepted) && eqb k (g.gone % 16)
+abbrev pub is_next : Seen → ℕ → Bool
+is_next g k = ltb g.gone (length g.accepted) && eqb k (g.gone % 16)
 
-unfoldable pub goneWith : Seen → ℕ → ℕ
-goneWith g k = cond (isNext g k) (g.gone + 1) g.gone
+unfoldable pub gone_with : Seen → ℕ → ℕ
+gone_with g k = cond (is_next g k) (g.gone + 1) g.gone
 
-abbrev pub seenWith : Seen → ℕ → ℕ → ℕ → ℕ → Seen
-seenWith g gone released ticks expiries =
+abbrev pub seen_with : Seen → ℕ → ℕ → ℕ → ℕ → Seen
+seen_with g gone released ticks expiries =
     record {
       columns = g.columns;
       accepted = g.accepted;
@@ -61,21 +61,21 @@ seenWith g gone released ticks expiries =
     }
 
 -- an ACK or NACK of the oldest's number restarts the timer and clears the count; the ACK releases the oldest
-unfoldable pub seenReply : Seen → Reply → Seen
-seenReply g (ack k) = cond (isOldest g k) (seenWith g g.gone (g.released + 1) 0 0) g
-seenReply g (nack k) = cond (isOldest g k) (seenWith g g.gone g.released 0 0) g
-seenReply g damaged-reply = g
+unfoldable pub seen_reply : Seen → Reply → Seen
+seen_reply g (ack k) = cond (is_oldest g k) (seen_with g g.gone (g.released + 1) 0 0) g
+seen_reply g (nack k) = cond (is_oldest g k) (seen_with g g.gone g.released 0 0) g
+seen_reply g damaged_reply = g
 
 -- the T-th tick is an expiry
-unfoldable pub seenTick : Seen → Seen
-seenTick g =
-    cond (isRunning g)
-    (cond (is_last g) (seenWith g g.gone g.released 0 (g.expiries + 1))
-    (seenWith g g.gone g.released (g.ticks + 1) g.expiries))
+unfoldable pub seen_tick : Seen → Seen
+seen_tick g =
+    cond (is_running g)
+    (cond (is_last g) (seen_with g g.gone g.released 0 (g.expiries + 1))
+    (seen_with g g.gone g.released (g.ticks + 1) g.expiries))
     g
 
-abbrev pub seenLists : Seen → List Content → List Content → Seen
-seenLists g accepted delivered =
+abbrev pub seen_lists : Seen → List Content → List Content → Seen
+seen_lists g accepted delivered =
     record {
       columns = g.columns;
       accepted = accepted;

@@ -8,15 +8,15 @@ use native.Mathlib.Omega.{arith}
 use lib.Dec.{eqb}
 use lib.ListN.{length, replicate, set}
 use Rattle.laws.proofs.Cases.{by_cases}
-use Rattle.segment_size.specs.Sizes.{sizeAllowed}
+use Rattle.segment_size.specs.Sizes.{size_allowed}
 use Rattle.retry_rules.specs.declared.Receiver.{Receiver}
 use Rattle.retry_rules.specs.Lent.{Content}
 use Rattle.delivery_rules.specs.Ends.{Item, segment, damaged, Reply, Ends}
-use Rattle.delivery_rules.specs.Outside.{outstanding, ticksLeft}
+use Rattle.delivery_rules.specs.Outside.{outstanding, ticks_left}
 use Rattle.delivery_rules.specs.Model.{Event, offer, send, arrive, lose, damage, hear, lose-reply, damage-reply, tick, joined, without, World, arrives, hears, step, run, start}
-use Rattle.delivery_rules.specs.Demand.{Good, AllGood, Allowed, Moment, at, AllCalm, expireOnce, SendsEach, Drill, drilled, Delivers}
-use Rattle.delivery_rules.proofs.Seeing.{reply-heard, tick-lists}
-use Rattle.delivery_wrong.specs.Altered.{acceptsNone, neverSends, neverSendsAndLies, onlyNacks, acksOnly, acksAndDeliversNothing, refusesArrivals}
+use Rattle.delivery_rules.specs.Demand.{Good, AllGood, Allowed, Moment, at, AllCalm, expire_once, SendsEach, Drill, drilled, Delivers}
+use Rattle.delivery_rules.proofs.Seeing.{reply_heard, tick_lists}
+use Rattle.delivery_wrong.specs.Altered.{accepts_none, never_sends, never_sends_and_lies, only_nacks, acks_only, acks_and_delivers_nothing, refuses_arrivals}
 
 -- a good segment, and eight of them
 one : Content
@@ -25,18 +25,18 @@ one = record { channel = 3; bad = false; bytes = 7 ∷ 8 ∷ [] }
 abbrev eight : List Content
 eight = replicate 8 one
 
-all-good : AllGood 8 eight
+all_good : AllGood 8 eight
 unfolding one
-all-good = (g, (g, (g, (g, (g, (g, (g, (g, tt))))))))
+all_good = (g, (g, (g, (g, (g, (g, (g, (g, tt))))))))
   where
     g : Good 8 one
-    g = record { channel-lt = omega arith; some = omega arith; most = omega arith }
+    g = record { channel_lt = omega arith; some = omega arith; most = omega arith }
 
 abbrev lent : List ℕ
 lent = replicate 64 0
 
 allowed : Allowed 4 8 lent
-unfolding sizeAllowed
+unfolding size_allowed
 allowed = record { time = refl; size = refl; eight = refl }
 
 module _ (E : Ends) where
@@ -47,13 +47,13 @@ module _ (E : Ends) where
     along [] w p = p
     along (e ∷ es) w p = along es (step E e w) (kept e w p)
 
-    after-drill : (w : World E) (d : Drill E w) → P w → P (drilled E w d)
-    unfolding expireOnce
-    after-drill w d p =
+    after_drill : (w : World E) (d : Drill E w) → P w → P (drilled E w d)
+    unfolding expire_once
+    after_drill w d p =
         let v = run E d.emptying w in
         let q = along d.emptying w p in
-        along d.sending (expireOnce E v)
-        (by_cases P (eqb (outstanding v.seen) 0) (λ _. q) (λ _. along (replicate (ticksLeft v.seen) tick) v q))
+        along d.sending (expire_once E v)
+        (by_cases P (eqb (outstanding v.seen) 0) (λ _. q) (λ _. along (replicate (ticks_left v.seen) tick) v q))
 
   -- fresh ends, and the drill that has nothing to do; then eight good offers
   abbrev begin : World E
@@ -65,21 +65,21 @@ module _ (E : Ends) where
   offered : Moment E
   offered = record { T = 4; S = 8; lent = lent; allowed = allowed; events = map offer eight }
 
-  no-drill : Drill E (at E fresh)
-  unfolding fresh run AllCalm expireOnce SendsEach
-  no-drill = record { emptying = []; calm = tt; empty = (refl, refl); sending = []; each = (refl, (refl, refl)) }
+  no_drill : Drill E (at E fresh)
+  unfolding fresh run AllCalm expire_once SendsEach
+  no_drill = record { emptying = []; calm = tt; empty = (refl, refl); sending = []; each = (refl, (refl, refl)) }
 
   -- ends that meet the demand accept the eight
-  accepted-all : Delivers E → (run E (map offer eight) begin).seen.accepted ≡ eight
-  unfolding fresh no-drill run expireOnce
-  accepted-all d = (d.recovers fresh refl (omega arith) no-drill).eight-free eight refl all-good
+  accepted_all : Delivers E → (run E (map offer eight) begin).seen.accepted ≡ eight
+  unfolding fresh no_drill run expire_once
+  accepted_all d = (d.recovers fresh refl (omega arith) no_drill).eight-free eight refl all_good
 
   -- and deliver them
-  delivered-all : (d : Delivers E) → (r : Drill E (at E offered)) × ((drilled E (at E offered) r).seen.delivered ≡ eight)
+  delivered_all : (d : Delivers E) → (r : Drill E (at E offered)) × ((drilled E (at E offered) r).seen.delivered ≡ eight)
   unfolding offered run step
-  delivered-all d =
-      let r = d.can-drill offered refl (omega arith) in
-      (r, (d.recovers offered refl (omega arith) r).all ∙ accepted-all d)
+  delivered_all d =
+      let r = d.can_drill offered refl (omega arith) in
+      (r, (d.recovers offered refl (omega arith) r).all ∙ accepted_all d)
 
   -- a sender that accepts no offer
   module _ (none : (s : E.Sender) (buffers : List ℕ) (x : Content) → (E.offer s buffers x).accepted ≡ false) where
@@ -90,40 +90,40 @@ module _ (E : Ends) where
         unaccepted xs (step E (offer x) w)
         ∙ ap (λ (b : Bool). joined w.seen.accepted b x) (none w.sender w.buffers x)
 
-    pub accepts-none : Delivers E → ⊥
-    accepts-none d = omega (arith, ap length (sym (unaccepted eight begin) ∙ accepted-all d))
+    pub accepts_none_lem : Delivers E → ⊥
+    accepts_none_lem d = omega (arith, ap length (sym (unaccepted eight begin) ∙ accepted_all d))
 
   -- a receiver that delivers nothing
   abbrev Undelivered : World E → Type 0
   Undelivered w = w.seen.delivered ≡ []
 
-  hears-same : (w : World E) (l : List Reply) → (hears E w l).seen.delivered ≡ w.seen.delivered
-  hears-same w [] = refl
-  hears-same w (y ∷ l) = (reply-heard w.seen y).lists.delivered
+  hears_same : (w : World E) (l : List Reply) → (hears E w l).seen.delivered ≡ w.seen.delivered
+  hears_same w [] = refl
+  hears_same w (y ∷ l) = (reply_heard w.seen y).lists.delivered
 
   module _ (none : (r : E.Receiver) (i : Item) (room : Bool) (output : List ℕ) → (E.arrive r i room output).delivered ≡ false) where
-    arrives-none : (w : World E) (room : Bool) (output : List ℕ) (l : List Item) → Undelivered w → Undelivered (arrives E w room output l)
-    arrives-none w room output [] p = p
-    arrives-none w room output (i ∷ l) p =
+    arrives_none : (w : World E) (room : Bool) (output : List ℕ) (l : List Item) → Undelivered w → Undelivered (arrives E w room output l)
+    arrives_none w room output [] p = p
+    arrives_none w room output (i ∷ l) p =
         ap (λ (b : Bool). joined w.seen.delivered b (E.arrive w.receiver i room output).content) (none w.receiver i room output) ∙ p
 
     undelivered : (e : Event) (w : World E) → Undelivered w → Undelivered (step E e w)
     unfolding step
     undelivered (offer x) w p = p
     undelivered (send output) w p = p
-    undelivered (arrive room output) w p = arrives-none w room output w.forward p
+    undelivered (arrive room output) w p = arrives_none w room output w.forward p
     undelivered (lose n) w p = p
     undelivered (damage n) w p = p
-    undelivered hear w p = hears-same w w.backward ∙ p
+    undelivered hear w p = hears_same w w.backward ∙ p
     undelivered (lose-reply n) w p = p
     undelivered (damage-reply n) w p = p
-    undelivered tick w p = (tick-lists w.seen).delivered ∙ p
+    undelivered tick w p = (tick_lists w.seen).delivered ∙ p
 
-    pub delivers-nothing : Delivers E → ⊥
+    pub delivers_nothing : Delivers E → ⊥
     unfolding offered
-    delivers-nothing d =
-        let all = delivered-all d in
-        let nothing = after-drill Undelivered undelivered (at E offered) all.0 (along Undelivered undelivered (map offer eight) begin refl) in
+    delivers_nothing d =
+        let all = delivered_all d in
+        let nothing = after_drill Undelivered undelivered (at E offered) all.0 (along Undelivered undelivered (map offer eight) begin refl) in
         omega (arith, ap length (sym nothing ∙ all.1))
 
   -- a sender that never sends: nothing is ever on the line, and so nothing arrives
@@ -149,38 +149,38 @@ module _ (E : Ends) where
       where
         heard : (l : List Reply) → Still (hears E w l)
         heard [] = p
-        heard (y ∷ l) = record { line = p.line; nothing = (reply-heard w.seen y).lists.delivered ∙ p.nothing }
+        heard (y ∷ l) = record { line = p.line; nothing = (reply_heard w.seen y).lists.delivered ∙ p.nothing }
     still (lose-reply n) w p = record { line = p.line; nothing = p.nothing }
     still (damage-reply n) w p = record { line = p.line; nothing = p.nothing }
-    still tick w p = record { line = p.line; nothing = (tick-lists w.seen).delivered ∙ p.nothing }
+    still tick w p = record { line = p.line; nothing = (tick_lists w.seen).delivered ∙ p.nothing }
 
-    pub never-sends : Delivers E → ⊥
+    pub never_sends_lem : Delivers E → ⊥
     unfolding offered
-    never-sends d =
-        let all = delivered-all d in
+    never_sends_lem d =
+        let all = delivered_all d in
         let fresh-still : Still begin = record { line = refl; nothing = refl } in
-        let nothing = (after-drill Still still (at E offered) all.0 (along Still still (map offer eight) begin fresh-still)).nothing in
+        let nothing = (after_drill Still still (at E offered) all.0 (along Still still (map offer eight) begin fresh-still)).nothing in
         omega (arith, ap length (sym nothing ∙ all.1))
 
 -- the ends that document 01 lists
-pub accepts-none-refused : Delivers acceptsNone → ⊥
-accepts-none-refused = accepts-none acceptsNone (λ s buffers x. refl)
+pub accepts_none_refused : Delivers accepts_none → ⊥
+accepts_none_refused = accepts_none_lem accepts_none (λ s buffers x. refl)
 
-pub never-sends-refused : Delivers neverSends → ⊥
-never-sends-refused = never-sends neverSends (λ s buffers output. refl)
+pub never_sends_refused : Delivers never_sends → ⊥
+never_sends_refused = never_sends_lem never_sends (λ s buffers output. refl)
 
-pub liar-refused : Delivers neverSendsAndLies → ⊥
-liar-refused = never-sends neverSendsAndLies (λ s buffers output. refl)
+pub liar_refused : Delivers never_sends_and_lies → ⊥
+liar_refused = never_sends_lem never_sends_and_lies (λ s buffers output. refl)
 
-pub only-nacks-refused : Delivers onlyNacks → ⊥
-only-nacks-refused = delivers-nothing onlyNacks (λ r i room output. refl)
+pub only_nacks_refused : Delivers only_nacks → ⊥
+only_nacks_refused = delivers_nothing only_nacks (λ r i room output. refl)
 
-pub acks-only-refused : Delivers acksAndDeliversNothing → ⊥
-acks-only-refused = delivers-nothing acksAndDeliversNothing nothing
+pub acks_only_refused : Delivers acks_and_delivers_nothing → ⊥
+acks_only_refused = delivers_nothing acks_and_delivers_nothing nothing
   where
-    nothing : (r : Receiver) (i : Item) (room : Bool) (output : List ℕ) → (acksOnly r i).delivered ≡ false
+    nothing : (r : Receiver) (i : Item) (room : Bool) (output : List ℕ) → (acks_only r i).delivered ≡ false
     nothing r (segment k x) room output = refl
     nothing r damaged room output = refl
 
-pub refuses-arrivals-refused : Delivers refusesArrivals → ⊥
-refuses-arrivals-refused = delivers-nothing refusesArrivals (λ r i room output. refl)
+pub refuses_arrivals_refused : Delivers refuses_arrivals → ⊥
+refuses_arrivals_refused = delivers_nothing refuses_arrivals (λ r i room output. refl)

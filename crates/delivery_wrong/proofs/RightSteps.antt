@@ -10,25 +10,25 @@ use lib.Dec.{ltb, eqb}
 use lib.ListN.{length, get_or, set, length-append, length-set, get_or-append}
 use lib.Seq.{take-append-le, get_or-append_seam, get_or-set_same, get_or-set_other}
 use borrow.Author.Tests.{ltb-true, ltb-false, eqb-true, eqb-false, lt-ltb, eq-eqb, ne_eqb}
-use Rattle.laws.proofs.Cases.{by_cases, by-test, both_true, second-true, cond-true, cond-false}
-use Rattle.retry_rules.specs.Numbers.{between, amongLast}
+use Rattle.laws.proofs.Cases.{by_cases, by_test, both_true, second_true, cond_true, cond_false}
+use Rattle.retry_rules.specs.Numbers.{between, among_last}
 use Rattle.retry_rules.specs.Lent.{Content}
-use Rattle.delivery_rules.specs.Ends.{Item, segment, damaged, Reply, ack, nack, damaged-reply, Offering, Sending, Arriving}
-use Rattle.delivery_rules.specs.Outside.{isNext, goneWith}
+use Rattle.delivery_rules.specs.Ends.{Item, segment, damaged, Reply, ack, nack, damaged_reply, Offering, Sending, Arriving}
+use Rattle.delivery_rules.specs.Outside.{is_next, gone_with}
 use Rattle.delivery_rules.specs.Model.{Event, offer, send, arrive, lose, damage, hear, lose-reply, damage-reply, tick, without, World, offered, sent, arrived, lined, arrives, step, run, start}
-use Rattle.delivery_rules.specs.Demand.{noContent}
-use Rattle.delivery_rules.proofs.Lines.{Line, empty, weaken, lower, snoc, snoc-skip, lost, damaged-at, tail, first}
-use Rattle.delivery_rules.proofs.Round.{near-is, among-is}
-use Rattle.delivery_rules.proofs.Seeing.{not-second, stands}
+use Rattle.delivery_rules.specs.Demand.{no_content}
+use Rattle.delivery_rules.proofs.Lines.{Line, empty, weaken, lower, snoc, snoc_skip, lost, damaged_at, tail, first}
+use Rattle.delivery_rules.proofs.Round.{near_is, among_is}
+use Rattle.delivery_rules.proofs.Seeing.{not_second, stands}
 use Rattle.delivery_rules.proofs.ArrivalSteps.{one_more}
 use Rattle.delivery_rules.proofs.Invariant.{IsItem, IsDamaged, IsAck, IsIdle}
-use Rattle.delivery_wrong.specs.Plain.{eightOf, PlainSender, PlainReceiver, fallen, plainTaken, plainOffer, plainGoes, plainSend, replied, plainArrive, ruleChoice, plain}
+use Rattle.delivery_wrong.specs.Plain.{eight_of, PlainSender, PlainReceiver, fallen, plain_taken, plain_offer, plain_goes, plain_send, replied, plain_arrive, rule_choice, plain}
 use Rattle.delivery_rules.proofs.SenderSteps.{grown}
-use Rattle.delivery_wrong.proofs.RightInvariant.{Inv as InvOf, hears-inv, tick-inv}
+use Rattle.delivery_wrong.proofs.RightInvariant.{Inv as InvOf, hears_inv, tick_inv}
 
 -- whether of the last eight only those count that were really received or released
 module _ (really : Bool) where
-  abbrev Inv : World (plain (ruleChoice really)) → Type 0
+  abbrev Inv : World (plain (rule_choice really)) → Type 0
   Inv w = InvOf really w
 
   -- two places of a window of eight
@@ -40,17 +40,17 @@ module _ (really : Bool) where
   other o p m h u v q = omega arith
 
   -- at most eight count
-  eight-le : (n : ℕ) → eightOf (ruleChoice really) n ≤ 8
-  eight-le n = by_cases (λ (m : ℕ). m ≤ 8) really (λ _. omega arith) (λ _. omega arith)
+  eight_le : (n : ℕ) → eight_of (rule_choice really) n ≤ 8
+  eight_le n = by_cases (λ (m : ℕ). m ≤ 8) really (λ _. omega arith) (λ _. omega arith)
 
-  among-at : (k j t e : ℕ) → k ≡ j % 16 → t ≡ e → between k (t % 16) < 8 → between (j % 16) (e % 16) < 8
-  among-at k j t e p q h =
+  among_at : (k j t e : ℕ) → k ≡ j % 16 → t ≡ e → between k (t % 16) < 8 → between (j % 16) (e % 16) < 8
+  among_at k j t e p q h =
       subst (λ (m : ℕ). between (j % 16) (m % 16) < 8) q (subst (λ (m : ℕ). between m (t % 16) < 8) p h)
 
-  module _ (w : World (plain (ruleChoice really))) (v : Inv w) where
+  module _ (w : World (plain (rule_choice really))) (v : Inv w) where
     -- offers and sends
-    taken-inv : (x : Content) → w.sender.stored < 8 → Inv (offered (plain (ruleChoice really)) w x (plainTaken (ruleChoice really) w.sender w.buffers x))
-    taken-inv x free =
+    taken_inv : (x : Content) → w.sender.stored < 8 → Inv (offered (plain (rule_choice really)) w x (plain_taken (rule_choice really) w.sender w.buffers x))
+    taken_inv x free =
         let s = w.sender in
         let g = w.seen in
         let acc = g.accepted in
@@ -66,95 +66,95 @@ module _ (really : Bool) where
           holds-it = λ i h.
               elim (dec_lt i s.stored) [
                 | yes p ↦
-                    get_or-set_other s.held ((s.released + s.stored) % 8) ((g.released + i) % 8) x noContent
+                    get_or-set_other s.held ((s.released + s.stored) % 8) ((g.released + i) % 8) x no_content
                     (λ q. apart g.released i s.stored p free (q ∙ slot))
                     ∙ v.holds-it i p
-                    ∙ sym (get_or-append acc (x ∷ []) noContent (g.released + i) (omega arith))
+                    ∙ sym (get_or-append acc (x ∷ []) no_content (g.released + i) (omega arith))
                 | no p ↦
                     let last : g.released + i ≡ s.released + s.stored = omega arith in
                     let y : g.released + i ≡ length acc = omega arith in
-                    ap (λ (k : ℕ). get_or (set s.held ((s.released + s.stored) % 8) x) (k % 8) noContent) last
-                    ∙ get_or-set_same s.held ((s.released + s.stored) % 8) x noContent (omega arith)
-                    ∙ sym (get_or-append_seam acc x [] noContent)
-                    ∙ ap (λ (k : ℕ). get_or (acc ++ x ∷ []) k noContent) (sym y)
+                    ap (λ (k : ℕ). get_or (set s.held ((s.released + s.stored) % 8) x) (k % 8) no_content) last
+                    ∙ get_or-set_same s.held ((s.released + s.stored) % 8) x no_content (omega arith)
+                    ∙ sym (get_or-append_seam acc x [] no_content)
+                    ∙ ap (λ (k : ℕ). get_or (acc ++ x ∷ []) k no_content) (sym y)
               ];
           items = weaken (λ a j h t. grown acc x a j (omega arith) t) (omega arith) (omega arith) v.items;
           replies = v.replies;
         }
 
-    offer-inv : (x : Content) → Inv (offered (plain (ruleChoice really)) w x (plainOffer (ruleChoice really) w.sender w.buffers x))
-    unfolding plainOffer
-    offer-inv x =
-        by_cases (λ (a : Offering PlainSender). Inv (offered (plain (ruleChoice really)) w x a)) (not (fallen w.sender) && ltb w.sender.stored 8)
-        (λ t. taken-inv x (ltb-true w.sender.stored 8 (second-true (not (fallen w.sender)) _ t))) (λ _. v)
+    offer_inv : (x : Content) → Inv (offered (plain (rule_choice really)) w x (plain_offer (rule_choice really) w.sender w.buffers x))
+    unfolding plain_offer
+    offer_inv x =
+        by_cases (λ (a : Offering PlainSender). Inv (offered (plain (rule_choice really)) w x a)) (not (fallen w.sender) && ltb w.sender.stored 8)
+        (λ t. taken_inv x (ltb-true w.sender.stored 8 (second_true (not (fallen w.sender)) _ t))) (λ _. v)
 
-    gone-is : w.sender.point < w.sender.released + w.sender.stored → goneWith w.seen (w.sender.point % 16) ≡ max w.sender.gone (w.sender.point + 1)
-    unfolding goneWith
-    gone-is h =
+    gone_is : w.sender.point < w.sender.released + w.sender.stored → gone_with w.seen (w.sender.point % 16) ≡ max w.sender.gone (w.sender.point + 1)
+    unfolding gone_with
+    gone_is h =
         let s = w.sender in
         let g = w.seen in
         let u = v.counts in
-        by-test (ltb s.point g.gone)
+        by_test (ltb s.point g.gone)
         (λ p.
         let again = ltb-true s.point g.gone p in
-        let no = ne_eqb (s.point % 16) (g.gone % 16) (other g.released s.point g.gone u.point-ge again (omega arith)) in
-        cond-false (isNext g (s.point % 16)) (g.gone + 1) g.gone (not-second (ltb g.gone (length g.accepted)) _ no) ∙ omega arith)
+        let no = ne_eqb (s.point % 16) (g.gone % 16) (other g.released s.point g.gone u.point_ge again (omega arith)) in
+        cond_false (is_next g (s.point % 16)) (g.gone + 1) g.gone (not_second (ltb g.gone (length g.accepted)) _ no) ∙ omega arith)
         (λ p.
         let next = ltb-false s.point g.gone p in
         let at : s.point ≡ g.gone = omega arith in
-        cond-true (isNext g (s.point % 16)) (g.gone + 1) g.gone
+        cond_true (is_next g (s.point % 16)) (g.gone + 1) g.gone
         (both_true (ltb g.gone (length g.accepted)) _ (lt-ltb g.gone (length g.accepted) (omega arith))
         (eq-eqb (s.point % 16) (g.gone % 16) (ap (λ (n : ℕ). n % 16) at)))
         ∙ omega arith)
 
     -- the segment at the send point is one that was accepted
-    pub due-is : w.sender.point < w.sender.released + w.sender.stored
-        → get_or w.sender.held (w.sender.point % 8) noContent ≡ get_or w.seen.accepted w.sender.point noContent
-    due-is h =
+    pub due_is : w.sender.point < w.sender.released + w.sender.stored
+        → get_or w.sender.held (w.sender.point % 8) no_content ≡ get_or w.seen.accepted w.sender.point no_content
+    due_is h =
         let s = w.sender in
         let g = w.seen in
         let u = v.counts in
         let at : g.released + (s.point - g.released) ≡ s.point = omega arith in
-        subst (λ (p : ℕ). get_or s.held (p % 8) noContent ≡ get_or g.accepted p noContent) at (v.holds-it (s.point - g.released) (omega arith))
+        subst (λ (p : ℕ). get_or s.held (p % 8) no_content ≡ get_or g.accepted p no_content) at (v.holds-it (s.point - g.released) (omega arith))
 
-    goes-inv : w.sender.point < w.sender.released + w.sender.stored → Inv (sent (plain (ruleChoice really)) w (plainGoes (ruleChoice really) w.sender))
-    goes-inv h =
+    goes_inv : w.sender.point < w.sender.released + w.sender.stored → Inv (sent (plain (rule_choice really)) w (plain_goes (rule_choice really) w.sender))
+    goes_inv h =
         let s = w.sender in
         let u = v.counts in
-        let gone = gone-is h in
+        let gone = gone_is h in
         record {
           counts = omega arith;
           eight = v.eight;
           prefix = v.prefix;
           holds-it = v.holds-it;
-          items = snoc _ s.point (refl, due-is h) (omega arith) (omega arith) (omega arith) (lower (omega arith) (omega arith) v.items);
+          items = snoc _ s.point (refl, due_is h) (omega arith) (omega arith) (omega arith) (lower (omega arith) (omega arith) v.items);
           replies = v.replies;
         }
 
-    send-inv : (output : List ℕ) → Inv (sent (plain (ruleChoice really)) w (plainSend (ruleChoice really) w.sender w.buffers output))
-    unfolding plainSend
-    send-inv output =
+    send_inv : (output : List ℕ) → Inv (sent (plain (rule_choice really)) w (plain_send (rule_choice really) w.sender w.buffers output))
+    unfolding plain_send
+    send_inv output =
         let s = w.sender in
-        by_cases (λ (a : Sending PlainSender). Inv (sent (plain (ruleChoice really)) w a)) (not (fallen s) && ltb s.point (s.released + s.stored))
-        (λ t. goes-inv (ltb-true s.point (s.released + s.stored) (second-true (not (fallen s)) _ t))) (λ _. v)
+        by_cases (λ (a : Sending PlainSender). Inv (sent (plain (rule_choice really)) w a)) (not (fallen s) && ltb s.point (s.released + s.stored))
+        (λ t. goes_inv (ltb-true s.point (s.released + s.stored) (second_true (not (fallen s)) _ t))) (λ _. v)
 
     -- arrivals
     lined-inv :
         (f : List Item) (b : List Reply) → Line (IsItem w.seen.accepted) IsDamaged w.seen.gone (length w.seen.delivered) f
-        → Line IsAck IsIdle (length w.seen.delivered) w.seen.released b → Inv (lined (plain (ruleChoice really)) w f b)
+        → Line IsAck IsIdle (length w.seen.delivered) w.seen.released b → Inv (lined (plain (rule_choice really)) w f b)
     lined-inv f b p q = record { counts = v.counts; eight = v.eight; prefix = v.prefix; holds-it = v.holds-it; items = p; replies = q }
 
-    denies-inv :
+    denies_inv :
         (i : Item) (rest : List Item) → Line (IsItem w.seen.accepted) IsDamaged w.seen.gone (length w.seen.delivered) (i ∷ rest)
-        → Inv (arrived (plain (ruleChoice really)) w rest (replied (nack (w.receiver.taken % 16)) w.receiver))
-    denies-inv i rest l =
-        lined-inv rest _ (tail l) (snoc-skip (nack (w.receiver.taken % 16)) (omega arith) v.replies)
+        → Inv (arrived (plain (rule_choice really)) w rest (replied (nack (w.receiver.taken % 16)) w.receiver))
+    denies_inv i rest l =
+        lined-inv rest _ (tail l) (snoc_skip (nack (w.receiver.taken % 16)) (omega arith) v.replies)
 
     arrived-inv :
         (i : Item) (rest : List Item) (room : Bool) (output : List ℕ)
         → Line (IsItem w.seen.accepted) IsDamaged w.seen.gone (length w.seen.delivered) (i ∷ rest)
-        → Inv (arrived (plain (ruleChoice really)) w rest (plainArrive (ruleChoice really) w.receiver i room output))
-    unfolding plainArrive amongLast
+        → Inv (arrived (plain (rule_choice really)) w rest (plain_arrive (rule_choice really) w.receiver i room output))
+    unfolding plain_arrive among_last
     arrived-inv (segment k x) rest room output l =
         let r = w.receiver in
         let g = w.seen in
@@ -164,13 +164,13 @@ module _ (really : Bool) where
         let is : k ≡ a.j % 16 = a.stands.0 in
         let low : a.j < e + 8 = omega arith in
         let expected : r.taken % 16 ≡ e % 16 = ap (λ (n : ℕ). n % 16) u.taken in
-        let P : Arriving PlainReceiver → Type 0 = λ b. Inv (arrived (plain (ruleChoice really)) w rest b) in
+        let P : Arriving PlainReceiver → Type 0 = λ b. Inv (arrived (plain (rule_choice really)) w rest b) in
         by_cases P (eqb k (r.taken % 16))
         (λ t. by_cases P room
         (λ _.
-        let j-is : a.j ≡ e = near-is a.j e a.near low (sym is ∙ eqb-true k (r.taken % 16) t ∙ expected) in
+        let j-is : a.j ≡ e = near_is a.j e a.near low (sym is ∙ eqb-true k (r.taken % 16) t ∙ expected) in
         let more : length (g.delivered ++ x ∷ []) ≡ e + 1 = length-append g.delivered (x ∷ []) in
-        let content : x ≡ get_or g.accepted e noContent = a.stands.1 ∙ ap (λ (i : ℕ). get_or g.accepted i noContent) j-is in
+        let content : x ≡ get_or g.accepted e no_content = a.stands.1 ∙ ap (λ (i : ℕ). get_or g.accepted i no_content) j-is in
         record {
           counts = omega arith;
           eight = v.eight;
@@ -179,42 +179,42 @@ module _ (really : Bool) where
           items = lower (omega arith) (omega arith) a.rest;
           replies = snoc (ack k) a.j is (omega arith) (omega arith) (omega arith) (lower (omega arith) (omega arith) v.replies);
         })
-        (λ _. denies-inv (segment k x) rest l))
-        (λ t. by_cases P (ltb (between k (r.taken % 16)) (eightOf (ruleChoice really) r.taken))
+        (λ _. denies_inv (segment k x) rest l))
+        (λ t. by_cases P (ltb (between k (r.taken % 16)) (eight_of (rule_choice really) r.taken))
         (λ last.
         let ne = eqb-false k (r.taken % 16) t in
-        let lt = ltb-true (between k (r.taken % 16)) (eightOf (ruleChoice really) r.taken) last in
-        let lt' : between (a.j % 16) (e % 16) < 8 = among-at k a.j r.taken e is u.taken (omega (arith, lt, eight-le r.taken)) in
-        let before : a.j < e = among-is a.j e low (λ p. ne (is ∙ ap (λ (j : ℕ). j % 16) p ∙ sym expected)) lt' in
+        let lt = ltb-true (between k (r.taken % 16)) (eight_of (rule_choice really) r.taken) last in
+        let lt' : between (a.j % 16) (e % 16) < 8 = among_at k a.j r.taken e is u.taken (omega (arith, lt, eight_le r.taken)) in
+        let before : a.j < e = among_is a.j e low (λ p. ne (is ∙ ap (λ (j : ℕ). j % 16) p ∙ sym expected)) lt' in
         lined-inv rest _ (tail l) (snoc (ack k) a.j is (omega arith) (omega arith) (omega arith) v.replies))
-        (λ _. denies-inv (segment k x) rest l))
-    arrived-inv damaged rest room output l = denies-inv damaged rest l
+        (λ _. denies_inv (segment k x) rest l))
+    arrived-inv damaged rest room output l = denies_inv damaged rest l
 
     arrives-inv :
         (room : Bool) (output : List ℕ) (l : List Item) → Line (IsItem w.seen.accepted) IsDamaged w.seen.gone (length w.seen.delivered) l
-        → Inv (arrives (plain (ruleChoice really)) w room output l)
+        → Inv (arrives (plain (rule_choice really)) w room output l)
     arrives-inv room output [] l = v
     arrives-inv room output (i ∷ rest) l = arrived-inv i rest room output l
 
-  pub step-inv : (e : Event) (w : World (plain (ruleChoice really))) → Inv w → Inv (step (plain (ruleChoice really)) e w)
+  pub step_inv : (e : Event) (w : World (plain (rule_choice really))) → Inv w → Inv (step (plain (rule_choice really)) e w)
   unfolding step
-  step-inv (offer x) w v = offer-inv w v x
-  step-inv (send output) w v = send-inv w v output
-  step-inv (arrive room output) w v = arrives-inv w v room output w.forward v.items
-  step-inv (lose n) w v = lined-inv w v (without w.forward n) w.backward (lost n v.items) v.replies
-  step-inv (damage n) w v = lined-inv w v (set w.forward n damaged) w.backward (damaged-at n damaged tt v.items) v.replies
-  step-inv hear w v = hears-inv really w v w.backward v.replies
-  step-inv (lose-reply n) w v = lined-inv w v w.forward (without w.backward n) v.items (lost n v.replies)
-  step-inv (damage-reply n) w v = lined-inv w v w.forward (set w.backward n damaged-reply) v.items (damaged-at n damaged-reply tt v.replies)
-  step-inv tick w v = tick-inv really w v
+  step_inv (offer x) w v = offer_inv w v x
+  step_inv (send output) w v = send_inv w v output
+  step_inv (arrive room output) w v = arrives-inv w v room output w.forward v.items
+  step_inv (lose n) w v = lined-inv w v (without w.forward n) w.backward (lost n v.items) v.replies
+  step_inv (damage n) w v = lined-inv w v (set w.forward n damaged) w.backward (damaged_at n damaged tt v.items) v.replies
+  step_inv hear w v = hears_inv really w v w.backward v.replies
+  step_inv (lose-reply n) w v = lined-inv w v w.forward (without w.backward n) v.items (lost n v.replies)
+  step_inv (damage-reply n) w v = lined-inv w v w.forward (set w.backward n damaged_reply) v.items (damaged_at n damaged_reply tt v.replies)
+  step_inv tick w v = tick_inv really w v
 
-  pub run-inv : (es : List Event) (w : World (plain (ruleChoice really))) → Inv w → Inv (run (plain (ruleChoice really)) es w)
+  pub run_inv : (es : List Event) (w : World (plain (rule_choice really))) → Inv w → Inv (run (plain (rule_choice really)) es w)
   unfolding run
-  run-inv [] w v = v
-  run-inv (e ∷ es) w v = run-inv es (step (plain (ruleChoice really)) e w) (step-inv e w v)
+  run_inv [] w v = v
+  run_inv (e ∷ es) w v = run_inv es (step (plain (rule_choice really)) e w) (step_inv e w v)
 
-  pub start-inv : (T S : ℕ) (lent : List ℕ) → 0 < T → Inv (start (plain (ruleChoice really)) T S lent)
-  start-inv T S lent h =
+  pub start_inv : (T S : ℕ) (lent : List ℕ) → 0 < T → Inv (start (plain (rule_choice really)) T S lent)
+  start_inv T S lent h =
       record {
         counts = omega arith;
         eight = refl;

@@ -3,13 +3,13 @@
 use mathlib.Core.Path.{◌≡◌, refl}
 use mathlib.Core.Bool.{true, false}
 use mathlib.Core.List.{List, [], ◌∷◌, ◌++◌, map}
-use Rattle.retry_rules.specs.Numbers.{amongLast}
+use Rattle.retry_rules.specs.Numbers.{among_last}
 use Rattle.delivery_rules.specs.Ends.{segment}
-use Rattle.delivery_rules.specs.Outside.{goneWith, seenReply, seenTick}
+use Rattle.delivery_rules.specs.Outside.{gone_with, seen_reply, seen_tick}
 use Rattle.delivery_rules.specs.Model.{Event, offer, send, arrive, lose, hear, lose-reply, tick, step, run}
-use Rattle.delivery_rules.specs.Demand.{expireOnce, Delivers}
-use Rattle.delivery_wrong.specs.Plain.{plainOffer, plainSend, plainHear, plainTick, plainArrive, leftBehind, usedAgain, coversEarlier, falseCount}
-use Rattle.delivery_wrong.proofs.ByRun.{nth, segments, times, output, round, after, checked, breaksSafety, unsafe, breaksAt, breaksRecovery, unrecovered}
+use Rattle.delivery_rules.specs.Demand.{expire_once, Delivers}
+use Rattle.delivery_wrong.specs.Plain.{plain_offer, plain_send, plain_hear, plain_tick, plain_arrive, left_behind, used_again, covers_earlier, false_count}
+use Rattle.delivery_wrong.proofs.ByRun.{nth, segments, times, output, round, after, checked, breaks_safety, unsafe, breaks_at, breaks_recovery, unrecovered}
 
 -- segment 0 is delivered, the timer expires and the send point is at 0; then its ACK is heard and the send point stays there.
 -- Segments 1 to 8 are offered, and 8 is stored in the buffer that 0 has left
@@ -17,37 +17,37 @@ abbrev pub behind : List Event
 behind = offer (nth 0) ∷ send output ∷ arrive true output ∷ tick ∷ hear ∷ map offer (segments 1 8)
 
 -- the freed buffer is read: segment 8 goes out under the number of segment 0
-pub freed-buffer-read : (step leftBehind (send output) (after leftBehind behind)).forward ≡ segment 0 (nth 8) ∷ []
-unfolding run step goneWith seenReply seenTick amongLast plainOffer plainSend plainHear plainTick plainArrive
-freed-buffer-read = refl
+pub freed_buffer_read : (step left_behind (send output) (after left_behind behind)).forward ≡ segment 0 (nth 8) ∷ []
+unfolding run step gone_with seen_reply seen_tick among_last plain_offer plain_send plain_hear plain_tick plain_arrive
+freed_buffer_read = refl
 
 -- and after the drill segment 8 is not delivered
-pub left-behind-refused : Delivers leftBehind → ⊥
-unfolding breaksRecovery breaksAt checked run step expireOnce goneWith seenReply seenTick amongLast plainOffer plainSend plainHear plainTick plainArrive
-left-behind-refused = unrecovered leftBehind behind (times 8 round) refl
+pub left_behind_refused : Delivers left_behind → ⊥
+unfolding breaks_recovery breaks_at checked run step expire_once gone_with seen_reply seen_tick among_last plain_offer plain_send plain_hear plain_tick plain_arrive
+left_behind_refused = unrecovered left_behind behind (times 8 round) refl
 
 -- eight are offered, and the eighth is stored where the first was: it is delivered in its place
 abbrev pub overwritten : List Event
 overwritten = map offer (segments 0 8) ++ send output ∷ arrive true output ∷ []
 
-pub used-again-refused : Delivers usedAgain → ⊥
-unfolding breaksSafety run step goneWith seenReply seenTick amongLast plainOffer plainSend plainHear plainTick plainArrive
-used-again-refused = unsafe usedAgain overwritten 0 refl
+pub used_again_refused : Delivers used_again → ⊥
+unfolding breaks_safety run step gone_with seen_reply seen_tick among_last plain_offer plain_send plain_hear plain_tick plain_arrive
+used_again_refused = unsafe used_again overwritten 0 refl
 
 -- two are delivered, the first ACK is lost and the second is heard: segment 0 has not been acknowledged, and is not sent again
-abbrev pub firstAckLost : List Event
-firstAckLost =
+abbrev pub first_ack_lost : List Event
+first_ack_lost =
     map offer (segments 0 2) ++ times 2 (send output ∷ []) ++ times 2 (arrive true output ∷ []) ++ lose-reply 0 ∷ hear ∷ []
 
-pub covers-earlier-refused : Delivers coversEarlier → ⊥
-unfolding breaksRecovery breaksAt checked run step expireOnce goneWith seenReply seenTick amongLast plainOffer plainSend plainHear plainTick plainArrive
-covers-earlier-refused = unrecovered coversEarlier firstAckLost (times 2 round) refl
+pub covers_earlier_refused : Delivers covers_earlier → ⊥
+unfolding breaks_recovery breaks_at checked run step expire_once gone_with seen_reply seen_tick among_last plain_offer plain_send plain_hear plain_tick plain_arrive
+covers_earlier_refused = unrecovered covers_earlier first_ack_lost (times 2 round) refl
 
 -- an expiry, a NACK of the oldest from a full receiver, an expiry: one is counted, and the next takes the link down
-abbrev pub clearedOnce : List Event
-clearedOnce =
+abbrev pub cleared_once : List Event
+cleared_once =
     offer (nth 0) ∷ send output ∷ lose 0 ∷ tick ∷ send output ∷ arrive false output ∷ hear ∷ tick ∷ []
 
-pub false-count-refused : Delivers falseCount → ⊥
-unfolding breaksRecovery breaksAt checked run step expireOnce goneWith seenReply seenTick amongLast plainOffer plainSend plainHear plainTick plainArrive
-false-count-refused = unrecovered falseCount clearedOnce round refl
+pub false_count_refused : Delivers false_count → ⊥
+unfolding breaks_recovery breaks_at checked run step expire_once gone_with seen_reply seen_tick among_last plain_offer plain_send plain_hear plain_tick plain_arrive
+false_count_refused = unrecovered false_count cleared_once round refl

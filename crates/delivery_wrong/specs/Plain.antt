@@ -2,19 +2,19 @@
 -- `right` makes them by the rules; each wrong end is one other choice (a wider window has more buffers too). They hold contents and not bytes, and
 -- refuse nothing for its size, its channel or the output.
 use Rattle.std.specs.Prelude.{ℕ, ◌+◌, ◌-◌, ◌%◌, min, max, Bool, true, false, not, cond, ◌&&◌, ◌||◌, List, ltb, eqb, get_or, set, replicate}
-use Rattle.retry_rules.specs.Numbers.{amongLast}
+use Rattle.retry_rules.specs.Numbers.{among_last}
 use Rattle.retry_rules.specs.Lent.{Content}
-use Rattle.delivery_rules.specs.Ends.{Item, segment, damaged, Reply, ack, nack, damaged-reply, Offering, Sending, Arriving, Ends}
-use Rattle.delivery_rules.specs.Demand.{noContent}
+use Rattle.delivery_rules.specs.Ends.{Item, segment, damaged, Reply, ack, nack, damaged_reply, Offering, Sending, Arriving, Ends}
+use Rattle.delivery_rules.specs.Demand.{no_content}
 
 pub record Choice : Type 0 where
   -- how many segments may be stored, and in how many buffers
   pub window : ℕ
   pub buffers : ℕ
   -- a send point left behind by an ACK moves up
-  pub moves-up : Bool
+  pub moves_up : Bool
   -- an ACK releases its own segment only, if that is the oldest
-  pub own-only : Bool
+  pub own_only : Bool
   -- a NACK of the oldest clears the expiry count
   pub clears : Bool
   -- of the last eight numbers only those count that were really received or released
@@ -56,10 +56,10 @@ moved s point ticks expiries =
     }
 
 abbrev pub replied : Reply → PlainReceiver → Arriving PlainReceiver
-replied y r = record { answered = true; reply = y; delivered = false; content = noContent; state = r }
+replied y r = record { answered = true; reply = y; delivered = false; content = no_content; state = r }
 
-unfoldable pub plainTick : PlainSender → PlainSender
-plainTick s =
+unfoldable pub plain_tick : PlainSender → PlainSender
+plain_tick s =
     cond (idle s) s
     (cond (eqb (s.ticks + 1) s.columns)
     (moved s (cond (ltb s.expiries 2) s.released s.point) 0 (s.expiries + 1))
@@ -67,12 +67,12 @@ plainTick s =
 
 module _ (c : Choice) where
   -- how many of the last eight of n count
-  abbrev pub eightOf : ℕ → ℕ
-  eightOf n = cond c.really (min n 8) 8
+  abbrev pub eight_of : ℕ → ℕ
+  eight_of n = cond c.really (min n 8) 8
 
   -- one more is stored
-  abbrev pub plainTaken : PlainSender → List ℕ → Content → Offering PlainSender
-  plainTaken s lent x =
+  abbrev pub plain_taken : PlainSender → List ℕ → Content → Offering PlainSender
+  plain_taken s lent x =
       record {
         accepted = true;
         buffers = lent;
@@ -88,17 +88,17 @@ module _ (c : Choice) where
         };
       }
 
-  unfoldable pub plainOffer : PlainSender → List ℕ → Content → Offering PlainSender
-  plainOffer s lent x =
-      cond (not (fallen s) && ltb s.stored c.window) (plainTaken s lent x) (record { accepted = false; buffers = lent; state = s })
+  unfoldable pub plain_offer : PlainSender → List ℕ → Content → Offering PlainSender
+  plain_offer s lent x =
+      cond (not (fallen s) && ltb s.stored c.window) (plain_taken s lent x) (record { accepted = false; buffers = lent; state = s })
 
   -- the segment at the send point goes out
-  abbrev pub plainGoes : PlainSender → Sending PlainSender
-  plainGoes s =
+  abbrev pub plain_goes : PlainSender → Sending PlainSender
+  plain_goes s =
       record {
         sent = true;
         number = s.point % 16;
-        content = get_or s.held (s.point % c.buffers) noContent;
+        content = get_or s.held (s.point % c.buffers) no_content;
         state = record {
           columns = s.columns;
           released = s.released;
@@ -111,20 +111,20 @@ module _ (c : Choice) where
         };
       }
 
-  unfoldable pub plainSend : PlainSender → List ℕ → List ℕ → Sending PlainSender
-  plainSend s lent output =
-      cond (not (fallen s) && ltb s.point (s.released + s.stored)) (plainGoes s)
-      (record { sent = false; number = 0; content = noContent; state = s })
+  unfoldable pub plain_send : PlainSender → List ℕ → List ℕ → Sending PlainSender
+  plain_send s lent output =
+      cond (not (fallen s) && ltb s.point (s.released + s.stored)) (plain_goes s)
+      (record { sent = false; number = 0; content = no_content; state = s })
 
   -- the n oldest are released
-  abbrev pub plainRelease : PlainSender → ℕ → PlainSender
-  plainRelease s n =
+  abbrev pub plain_release : PlainSender → ℕ → PlainSender
+  plain_release s n =
       record {
         columns = s.columns;
         released = s.released + n;
         gone = s.gone;
         stored = s.stored - n;
-        point = cond c.moves-up (max s.point (s.released + n)) s.point;
+        point = cond c.moves_up (max s.point (s.released + n)) s.point;
         ticks = 0;
         expiries = 0;
         held = s.held;
@@ -135,34 +135,34 @@ module _ (c : Choice) where
   ahead s k = (k + 16 - s.released % 16) % 16
 
   abbrev pub reach : PlainSender → ℕ
-  reach s = cond c.own-only 1 (s.gone - s.released)
+  reach s = cond c.own_only 1 (s.gone - s.released)
 
-  unfoldable pub plainHear : PlainSender → Reply → PlainSender
-  plainHear s (ack k) =
+  unfoldable pub plain_hear : PlainSender → Reply → PlainSender
+  plain_hear s (ack k) =
       cond (idle s) s
-      (cond (ltb (ahead s k) (reach s)) (plainRelease s (ahead s k + 1))
-      (cond (amongLast (eightOf s.released) (s.released % 16) k) s (moved s s.released s.ticks s.expiries)))
-  plainHear s (nack k) =
+      (cond (ltb (ahead s k) (reach s)) (plain_release s (ahead s k + 1))
+      (cond (among_last (eight_of s.released) (s.released % 16) k) s (moved s s.released s.ticks s.expiries)))
+  plain_hear s (nack k) =
       cond (idle s) s
       (cond (eqb k (s.released % 16)) (moved s s.released 0 (cond c.clears 0 s.expiries))
       (moved s s.released s.ticks s.expiries))
-  plainHear s damaged-reply = s
+  plain_hear s damaged_reply = s
 
-  unfoldable pub plainArrive : PlainReceiver → Item → Bool → List ℕ → Arriving PlainReceiver
-  plainArrive r (segment k x) room output =
+  unfoldable pub plain_arrive : PlainReceiver → Item → Bool → List ℕ → Arriving PlainReceiver
+  plain_arrive r (segment k x) room output =
       cond (eqb k (r.taken % 16))
       (cond room
       (record { answered = true; reply = ack k; delivered = true; content = x; state = record { taken = r.taken + 1 } })
       (replied (nack (r.taken % 16)) r))
-      (cond (amongLast (eightOf r.taken) (r.taken % 16) k) (replied (ack k) r) (replied (nack (r.taken % 16)) r))
-  plainArrive r damaged room output = replied (nack (r.taken % 16)) r
+      (cond (among_last (eight_of r.taken) (r.taken % 16) k) (replied (ack k) r) (replied (nack (r.taken % 16)) r))
+  plain_arrive r damaged room output = replied (nack (r.taken % 16)) r
 
 abbrev pub plain : Choice → Ends
 plain c =
     record {
       Sender = PlainSender;
       Receiver = PlainReceiver;
-      fresh-sender = λ T S. record {
+      make_sender = λ T S. record {
         refusal = 0;
         state = record {
           columns = T;
@@ -172,51 +172,51 @@ plain c =
           point = 0;
           ticks = 0;
           expiries = 0;
-          held = replicate c.buffers noContent;
+          held = replicate c.buffers no_content;
         };
       };
-      fresh-receiver = λ S. record { refusal = 0; state = record { taken = 0 } };
-      offer = plainOffer c;
-      send = plainSend c;
-      hear = plainHear c;
-      tick = plainTick;
-      arrive = plainArrive c;
+      make_receiver = λ S. record { refusal = 0; state = record { taken = 0 } };
+      offer = plain_offer c;
+      send = plain_send c;
+      hear = plain_hear c;
+      tick = plain_tick;
+      arrive = plain_arrive c;
     }
 
 -- the rules
-abbrev pub ruleChoice : Bool → Choice
-ruleChoice really = record { window = 8; buffers = 8; moves-up = true; own-only = true; clears = true; really = really }
+abbrev pub rule_choice : Bool → Choice
+rule_choice really = record { window = 8; buffers = 8; moves_up = true; own_only = true; clears = true; really = really }
 
 abbrev pub right : Ends
-right = plain (ruleChoice true)
+right = plain (rule_choice true)
 
 -- 'last eight' by remainder alone
-abbrev pub byRemainder : Ends
-byRemainder = plain (ruleChoice false)
+abbrev pub by_remainder : Ends
+by_remainder = plain (rule_choice false)
 
 -- a window of nine or more, with buffers enough for sixteen
-abbrev pub wideChoice : ℕ → Choice
-wideChoice n = record { window = n; buffers = 16; moves-up = true; own-only = true; clears = true; really = true }
+abbrev pub wide_choice : ℕ → Choice
+wide_choice n = record { window = n; buffers = 16; moves_up = true; own_only = true; clears = true; really = true }
 
 abbrev pub wide : ℕ → Ends
-wide n = plain (wideChoice n)
+wide n = plain (wide_choice n)
 
 -- all sixteen numbers in use at once
 abbrev pub sixteen : Ends
 sixteen = wide 16
 
 -- a buffer used again before its segment is released
-abbrev pub usedAgain : Ends
-usedAgain = plain (record { window = 8; buffers = 7; moves-up = true; own-only = true; clears = true; really = true })
+abbrev pub used_again : Ends
+used_again = plain (record { window = 8; buffers = 7; moves_up = true; own_only = true; clears = true; really = true })
 
 -- a send point that stays behind the oldest after an ACK, and reads a freed buffer
-abbrev pub leftBehind : Ends
-leftBehind = plain (record { window = 8; buffers = 8; moves-up = false; own-only = true; clears = true; really = true })
+abbrev pub left_behind : Ends
+left_behind = plain (record { window = 8; buffers = 8; moves_up = false; own_only = true; clears = true; really = true })
 
 -- an ACK taken to cover all earlier segments
-abbrev pub coversEarlier : Ends
-coversEarlier = plain (record { window = 8; buffers = 8; moves-up = true; own-only = false; clears = true; really = true })
+abbrev pub covers_earlier : Ends
+covers_earlier = plain (record { window = 8; buffers = 8; moves_up = true; own_only = false; clears = true; really = true })
 
 -- an expiry count other than the expiries since the last clearing
-abbrev pub falseCount : Ends
-falseCount = plain (record { window = 8; buffers = 8; moves-up = true; own-only = true; clears = false; really = true })
+abbrev pub false_count : Ends
+false_count = plain (record { window = 8; buffers = 8; moves_up = true; own_only = true; clears = false; really = true })

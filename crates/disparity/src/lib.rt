@@ -1,21 +1,21 @@
 // Disparity is -1 or +1, a signed number.
 ghost use Rattle.std.specs.Prelude.{◌≡◌};
-ghost use Rattle.character_rules.specs.Disparity.{isPlus, isMinus, isDisparity, disparityOf};
+ghost use Rattle.character_rules.specs.Disparity.{is_plus, is_minus, is_disparity, disparity_of};
 
 pub fn is_plus(d: i32) -> bool
-    ensures { result ≡ isPlus d }
+    ensures { result ≡ is_plus d }
 {
     d == 1
 }
 
 pub fn is_minus(d: i32) -> bool
-    ensures { result ≡ isMinus d }
+    ensures { result ≡ is_minus d }
 {
     d == -1
 }
 
 pub fn is_disparity(d: i32) -> bool
-    ensures { result ≡ isDisparity d }
+    ensures { result ≡ is_disparity d }
 {
     if is_plus(d) {
         return true;
@@ -24,7 +24,7 @@ pub fn is_disparity(d: i32) -> bool
 }
 
 pub fn disparity_of(plus: bool) -> i32
-    ensures { result ≡ disparityOf plus }
+    ensures { result ≡ disparity_of plus }
 {
     if plus {
         return 1;

@@ -1,12 +1,12 @@
 // An event as a number: the event's own, the segment number and the value.
 ghost use Rattle.std.specs.Prelude.{◌≡◌, ◌+◌, ◌*◌, ◌<◌};
-ghost use Rattle.packet_rules.specs.Answers.{eventSays};
-ghost use Rattle.events_rules.specs.Numbers.{markNumber, packedEvent};
+ghost use Rattle.packet_rules.specs.Answers.{event_says};
+ghost use Rattle.events_rules.specs.Numbers.{mark_number, packed_event};
 
 use packet_rules::Event;
 
 fn mark_number(mark: bool) -> u8
-    ensures { result ≡ markNumber mark }
+    ensures { result ≡ mark_number mark }
 {
     if mark { 1 } else { 0 }
 }
@@ -20,7 +20,7 @@ fn number_of(event: u32, segment: u8, value: u8) -> u32
 }
 
 pub fn event_number(e: Event) -> u32
-    ensures { result ≡ packedEvent (eventSays e) }
+    ensures { result ≡ packed_event (event_says e) }
 {
     match e {
         Event::Nothing => 0,

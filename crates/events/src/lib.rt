@@ -5,9 +5,9 @@ mod runs;
 ghost use Rattle.std.specs.Prelude.{◌≡◌, true, ◌+◌, ◌≤◌, ◌<◌, length};
 ghost use Rattle.character_table.specs.Table.{table};
 ghost use Rattle.crc.specs.Crc16.{entries as crcEntries};
-ghost use Rattle.capture_rules.specs.Capture.{characterCount, charactersOf};
-ghost use Rattle.packet_rules.specs.State.{wellFormed};
-ghost use Rattle.events_rules.specs.Events.{captureRead, eventsLeft};
+ghost use Rattle.capture_rules.specs.Capture.{character_count, characters_of};
+ghost use Rattle.packet_rules.specs.State.{well_formed};
+ghost use Rattle.events_rules.specs.Events.{capture_read, events_left};
 ghost use Rattle.events_rules.proofs.Runs.{Ran};
 
 use disparity::{disparity_of, is_plus};
@@ -24,9 +24,9 @@ pub struct Place {
 
 // One character: its event into the output, and the place after it.
 fn read_one(entries: &[u16; 1024], capture: &[u8], from: Place, events: &mut [u32]) -> Place
-    requires { (entries.now ≡ table) × (length capture.now ≤ 65535) × (from.at < characterCount (length capture.now))
-        × (characterCount (length capture.now) ≤ length events.old) × (wellFormed from.reader ≡ true) }
-    ensures { Ran (charactersOf capture.now) from.at from.plus from.reader
+    requires { (entries.now ≡ table) × (length capture.now ≤ 65535) × (from.at < character_count (length capture.now))
+        × (character_count (length capture.now) ≤ length events.old) × (well_formed from.reader ≡ true) }
+    ensures { Ran (characters_of capture.now) from.at from.plus from.reader
         events.old result.at result.plus result.reader events.new
         × (result.at ≡ from.at + 1) }
 {
@@ -53,9 +53,9 @@ fn read_some(
     from: Place,
     events: &mut [u32],
 ) -> Place
-    requires { (entries.now ≡ table) × (length capture.now ≤ 65535) × (from.at < characterCount (length capture.now))
-        × (characterCount (length capture.now) ≤ length events.old) × (wellFormed from.reader ≡ true) × (crcs.now ≡ crcEntries) }
-    ensures { Ran (charactersOf capture.now) from.at from.plus from.reader
+    requires { (entries.now ≡ table) × (length capture.now ≤ 65535) × (from.at < character_count (length capture.now))
+        × (character_count (length capture.now) ≤ length events.old) × (well_formed from.reader ≡ true) × (crcs.now ≡ crcEntries) }
+    ensures { Ran (characters_of capture.now) from.at from.plus from.reader
         events.old result.at result.plus result.reader events.new
         × (from.at < result.at) }
 {
@@ -69,9 +69,9 @@ fn read_some(
 
 // All characters from the first on.
 fn read_each(capture: &[u8], plus: bool, reader: Reader, events: &mut [u32]) -> Place
-    requires { (length capture.now ≤ 65535) × (characterCount (length capture.now) ≤ length events.old) × (wellFormed reader ≡ true) }
-    ensures { Ran (charactersOf capture.now) 0 plus reader
-        events.old (characterCount (length capture.now)) result.plus result.reader events.new }
+    requires { (length capture.now ≤ 65535) × (character_count (length capture.now) ≤ length events.old) × (well_formed reader ≡ true) }
+    ensures { Ran (characters_of capture.now) 0 plus reader
+        events.old (character_count (length capture.now)) result.plus result.reader events.new }
 {
     let entries = character_table::TABLE;
     let crcs = crc::table::TABLE;
@@ -94,8 +94,8 @@ pub fn read_capture(
     disparity: i32,
     events: &mut [u32],
 ) -> CaptureRead
-    ensures { (result ≡ captureRead capture.now reader disparity (length events.old))
-        × (events.new ≡ eventsLeft capture.now reader disparity events.old) }
+    ensures { (result ≡ capture_read capture.now reader disparity (length events.old))
+        × (events.new ≡ events_left capture.now reader disparity events.old) }
 {
     let refusal = event_checks::refusal_of(capture, reader, disparity, events.len());
     if refusal != 0 {

@@ -1,11 +1,11 @@
 // Runs of user bytes, which are most of a capture: while a packet takes bytes, each clean data symbol is an event and a step of the CRC.
 ghost use Rattle.std.specs.Prelude.{◌≡◌, true, ◌+◌, ◌≤◌, ◌<◌, length};
 ghost use Rattle.character_table.specs.Table.{table};
-ghost use Rattle.crc.specs.Crc16.{crcByte, entries as crcEntries};
-ghost use Rattle.capture_rules.specs.Capture.{characterCount, charactersOf};
-ghost use Rattle.packet_rules.specs.State.{wellFormed};
+ghost use Rattle.crc.specs.Crc16.{crc_byte, entries as crcEntries};
+ghost use Rattle.capture_rules.specs.Capture.{character_count, characters_of};
+ghost use Rattle.packet_rules.specs.State.{well_formed};
 ghost use Rattle.events_rules.proofs.Runs.{Ran};
-ghost use Rattle.events_rules.proofs.Feeding.{Fed, Takes, dataTo, priorityTo, countIn};
+ghost use Rattle.events_rules.proofs.Feeding.{Fed, Takes, data_to, priority_to, count_in};
 
 use crate::{Place, characters};
 use packet_open::register_in;
@@ -22,7 +22,7 @@ pub struct Taken {
 // The register after one more byte, by one load from the table.
 fn step_by(crcs: &[u16; 256], register: u16, byte: u8) -> u16
     requires { crcs.now ≡ crcEntries }
-    ensures { result ≡ crcByte register byte }
+    ensures { result ≡ crc_byte register byte }
 {
     let low = (register ^ (byte as u16)) % 256;
     (register / 256) ^ crcs[low as usize]
@@ -37,9 +37,9 @@ fn take_bytes(
     until: usize,
     events: &mut [u32],
 ) -> Taken
-    requires { (entries.now ≡ table) × (length capture.now ≤ 65535) × (until ≤ characterCount (length capture.now))
-        × (characterCount (length capture.now) ≤ length events.old) × (from.at ≤ until) × (crcs.now ≡ crcEntries) }
-    ensures { Fed (charactersOf capture.now) until from.at from.plus from.register
+    requires { (entries.now ≡ table) × (length capture.now ≤ 65535) × (until ≤ character_count (length capture.now))
+        × (character_count (length capture.now) ≤ length events.old) × (from.at ≤ until) × (crcs.now ≡ crcEntries) }
+    ensures { Fed (characters_of capture.now) until from.at from.plus from.register
         events.old result.at result.plus result.register events.new }
 {
     let mut plus = from.plus;
@@ -103,7 +103,7 @@ fn room_in(
 
 // The packets after so many bytes, with that register.
 fn data_after(packet: DataPacket, priority: PriorityPacket, register: u16) -> DataPacket
-    ensures { result ≡ dataTo packet priority register }
+    ensures { result ≡ data_to packet priority register }
 {
     match priority {
         PriorityPacket::InPriority { .. } => packet,
@@ -119,8 +119,8 @@ fn data_after(packet: DataPacket, priority: PriorityPacket, register: u16) -> Da
 }
 
 fn priority_after(priority: PriorityPacket, more: usize, register: u16) -> PriorityPacket
-    requires { countIn priority + more ≤ 65535 }
-    ensures { result ≡ priorityTo priority more register }
+    requires { count_in priority + more ≤ 65535 }
+    ensures { result ≡ priority_to priority more register }
 {
     match priority {
         PriorityPacket::InPriority { opening, count, .. } => PriorityPacket::InPriority {
@@ -141,10 +141,10 @@ pub(crate) fn user_bytes(
     until: usize,
     events: &mut [u32],
 ) -> Place
-    requires { (entries.now ≡ table) × (length capture.now ≤ 65535) × (until ≤ characterCount (length capture.now))
-        × (characterCount (length capture.now) ≤ length events.old) × (from.at ≤ until) × (wellFormed from.reader ≡ true)
+    requires { (entries.now ≡ table) × (length capture.now ≤ 65535) × (until ≤ character_count (length capture.now))
+        × (character_count (length capture.now) ≤ length events.old) × (from.at ≤ until) × (well_formed from.reader ≡ true)
         × (crcs.now ≡ crcEntries) }
-    ensures { Ran (charactersOf capture.now) from.at from.plus from.reader
+    ensures { Ran (characters_of capture.now) from.at from.plus from.reader
         events.old result.at result.plus result.reader events.new }
 {
     let at = from.at;

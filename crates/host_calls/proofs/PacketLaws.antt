@@ -5,52 +5,52 @@ use mathlib.Core.Path.{◌≡◌, refl}
 use mathlib.Core.List.{List}
 use lib.IntN.{ℤ}
 use Rattle.packet_rules.specs.declared.Reader.{Reader}
-use Rattle.packet_rules.specs.Answers.{Answer, made, notMade}
-use Rattle.packet_rules.specs.State.{freshReader}
-use Rattle.packet_rules.specs.Packets.{Packet, wrote, notWrote, packetWriting, packetOutput}
-use Rattle.packet_rules.proofs.Packets.{packet-leaves}
+use Rattle.packet_rules.specs.Answers.{Answer, made, not_made}
+use Rattle.packet_rules.specs.State.{fresh_reader}
+use Rattle.packet_rules.specs.Packets.{Packet, wrote, not_wrote, packet_writing, packet_output}
+use Rattle.packet_rules.proofs.Packets.{packet_leaves}
 use Rattle.host_rules.specs.declared.Told.{Told}
-use Rattle.host_rules.specs.ReaderBytes.{readerBytes}
-use Rattle.host_rules.specs.Stepping.{stepNumbers, toldOf}
-use Rattle.host_rules.proofs.Numbers.{done-called, refused-called}
-use Rattle.host_calls.specs.PacketCalls.{begins, Steps, steps, WritesPacket, writesPacket}
-use Rattle.host_calls.proofs.Same.{same-called}
+use Rattle.host_rules.specs.ReaderBytes.{reader_bytes}
+use Rattle.host_rules.specs.Stepping.{step_numbers, told_of}
+use Rattle.host_rules.proofs.Numbers.{done_called, refused_called}
+use Rattle.host_calls.specs.PacketCalls.{begins, Steps, steps, WritesPacket, writes_packet}
+use Rattle.host_calls.proofs.Same.{same_called}
 
 module _ (size : ℕ) (old : List ℕ) where
-  pub begin-done : (r : Reader) → made r ≡ freshReader size → begins size old ≡ record { refusal = 0; lent = readerBytes r }
+  pub begin_done : (r : Reader) → made r ≡ fresh_reader size → begins size old ≡ record { refusal = 0; lent = reader_bytes r }
   unfolding begins
-  begin-done r e = rw (← e) (done-called _ _ _ refl)
+  begin_done r e = rw (← e) (done_called _ _ _ refl)
 
-  pub begin-refused : (n : ℕ) → notMade n ≡ freshReader size → begins size old ≡ record { refusal = n; lent = old }
+  pub begin_refused : (n : ℕ) → not_made n ≡ fresh_reader size → begins size old ≡ record { refusal = n; lent = old }
   unfolding begins
-  begin-refused n e = rw (← e) (same-called n old)
+  begin_refused n e = rw (← e) (same_called n old)
 
-module _ (violation byte control : ℕ) (old : Steps) (a : Answer) (e : a ≡ stepNumbers old.reader violation byte control) (t : Told)
-    (f : t ≡ toldOf a.said) where
-  pub step-refused : (t.refusal ≡ 0 → ⊥) → steps violation byte control old ≡ record { refusal = t.refusal; lent = old }
+module _ (violation byte control : ℕ) (old : Steps) (a : Answer) (e : a ≡ step_numbers old.reader violation byte control) (t : Told)
+    (f : t ≡ told_of a.said) where
+  pub step_refused : (t.refusal ≡ 0 → ⊥) → steps violation byte control old ≡ record { refusal = t.refusal; lent = old }
   unfolding steps
-  step-refused h = rw (← e, ← f) (refused-called _ _ _ h)
+  step_refused h = rw (← e, ← f) (refused_called _ _ _ h)
 
   pub step-done :
       t.refusal ≡ 0
       → steps violation byte control old
-      ≡ record { refusal = t.refusal; lent = record { reader = readerBytes a.reader; event = t.event; value = t.value; number = t.number } }
+      ≡ record { refusal = t.refusal; lent = record { reader = reader_bytes a.reader; event = t.event; value = t.value; number = t.number } }
   unfolding steps
-  step-done h = rw (← e, ← f) (done-called _ _ _ h)
+  step-done h = rw (← e, ← f) (done_called _ _ _ h)
 
 module _ (size : ℕ) (packet : Packet) (old : WritesPacket) where
   -- the characters as the rule says, which on a refusal are as they stood
   abbrev pub characters : List ℕ
-  characters = packetOutput size packet old.disparity old.characters
+  characters = packet_output size packet old.disparity old.characters
 
   pub packet-done :
-      (n : ℕ) (d : ℤ) → wrote n d ≡ packetWriting size packet old.disparity old.characters
-      → writesPacket size packet old ≡ record { refusal = 0; lent = record { disparity = d; characters = characters; count = n } }
-  unfolding writesPacket
-  packet-done n d e = rw (← e) (done-called _ _ _ refl)
+      (n : ℕ) (d : ℤ) → wrote n d ≡ packet_writing size packet old.disparity old.characters
+      → writes_packet size packet old ≡ record { refusal = 0; lent = record { disparity = d; characters = characters; count = n } }
+  unfolding writes_packet
+  packet-done n d e = rw (← e) (done_called _ _ _ refl)
 
   pub packet-refused :
-      (n : ℕ) → notWrote n ≡ packetWriting size packet old.disparity old.characters
-      → writesPacket size packet old ≡ record { refusal = n; lent = record { disparity = old.disparity; characters = characters; count = old.count } }
-  unfolding writesPacket
-  packet-refused n e = rw (← e, packet-leaves size packet old.disparity old.characters n e) (same-called n old)
+      (n : ℕ) → not_wrote n ≡ packet_writing size packet old.disparity old.characters
+      → writes_packet size packet old ≡ record { refusal = n; lent = record { disparity = old.disparity; characters = characters; count = old.count } }
+  unfolding writes_packet
+  packet-refused n e = rw (← e, packet_leaves size packet old.disparity old.characters n e) (same_called n old)

@@ -6,48 +6,48 @@ use mathlib.Core.List.{List}
 use lib.ListN.{length}
 use Rattle.retry_rules.specs.declared.Arrived.{Arrived}
 use Rattle.retry_rules.specs.declared.Begun.{Begun}
-use Rattle.retry_rules.specs.Fresh.{freshReceiverOf}
-use Rattle.retry_rules.specs.Arrival.{arrivalOf, arrivalOutput, damagedArrivalOf}
+use Rattle.retry_rules.specs.Fresh.{fresh_receiver_of}
+use Rattle.retry_rules.specs.Arrival.{arrival_of, arrival_output, damaged_arrival_of}
 use Rattle.retry_rules.proofs.Refusals.{arrival-leaves}
-use Rattle.host_rules.specs.Numbers.{mark_of, markNumber}
-use Rattle.host_rules.proofs.Numbers.{refused-called, done-called}
-use Rattle.host_retry_rules.specs.ReceiverBytes.{receiverIn, receiverBytes}
-use Rattle.host_calls.specs.ReceiverCalls.{beginsReceiver, Arrives, arrives, ArrivesDamaged, arrivesDamaged}
+use Rattle.host_rules.specs.Numbers.{mark_of, mark_number}
+use Rattle.host_rules.proofs.Numbers.{refused_called, done_called}
+use Rattle.host_retry_rules.specs.ReceiverBytes.{receiver_in, receiver_bytes}
+use Rattle.host_calls.specs.ReceiverCalls.{begins_receiver, Arrives, arrives, ArrivesDamaged, arrives_damaged}
 
-module _ (size : ℕ) (old : List ℕ) (a : Begun) (e : a ≡ freshReceiverOf size) where
-  pub begin-refused : (a.refusal ≡ 0 → ⊥) → beginsReceiver size old ≡ record { refusal = a.refusal; lent = old }
-  unfolding beginsReceiver
-  begin-refused h = rw (← e) (refused-called _ _ _ h)
+module _ (size : ℕ) (old : List ℕ) (a : Begun) (e : a ≡ fresh_receiver_of size) where
+  pub begin_refused : (a.refusal ≡ 0 → ⊥) → begins_receiver size old ≡ record { refusal = a.refusal; lent = old }
+  unfolding begins_receiver
+  begin_refused h = rw (← e) (refused_called _ _ _ h)
 
-  pub begin-done : a.refusal ≡ 0 → beginsReceiver size old ≡ record { refusal = a.refusal; lent = receiverBytes a.receiver }
-  unfolding beginsReceiver
-  begin-done h = rw (← e) (done-called _ _ _ h)
+  pub begin_done : a.refusal ≡ 0 → begins_receiver size old ≡ record { refusal = a.refusal; lent = receiver_bytes a.receiver }
+  unfolding begins_receiver
+  begin_done h = rw (← e) (done_called _ _ _ h)
 
-module _ (old : ArrivesDamaged) (a : Arrived) (e : a ≡ damagedArrivalOf (receiverIn old.receiver)) where
-  pub damaged-refused : (a.refusal ≡ 0 → ⊥) → arrivesDamaged old ≡ record { refusal = a.refusal; lent = old }
-  unfolding arrivesDamaged
-  damaged-refused h = rw (← e) (refused-called _ _ _ h)
+module _ (old : ArrivesDamaged) (a : Arrived) (e : a ≡ damaged_arrival_of (receiver_in old.receiver)) where
+  pub damaged_refused : (a.refusal ≡ 0 → ⊥) → arrives_damaged old ≡ record { refusal = a.refusal; lent = old }
+  unfolding arrives_damaged
+  damaged_refused h = rw (← e) (refused_called _ _ _ h)
 
-  pub damaged-done :
+  pub damaged_done :
       a.refusal ≡ 0
-      → arrivesDamaged old ≡ record {
+      → arrives_damaged old ≡ record {
         refusal = a.refusal;
         lent = record {
-          receiver = receiverBytes a.receiver;
-          nack = markNumber a.nack;
+          receiver = receiver_bytes a.receiver;
+          nack = mark_number a.nack;
           reply = a.number;
         };
       }
-  unfolding arrivesDamaged
-  damaged-done h = rw (← e) (done-called _ _ _ h)
+  unfolding arrives_damaged
+  damaged_done h = rw (← e) (done_called _ _ _ h)
 
 module _ (number channel bad : ℕ) (bytes : List ℕ) (room : ℕ) (old : Arrives) (a : Arrived)
-    (e : a ≡ arrivalOf (receiverIn old.receiver) number channel (mark_of bad) (length bytes) (mark_of room) (length old.output)) where
+    (e : a ≡ arrival_of (receiver_in old.receiver) number channel (mark_of bad) (length bytes) (mark_of room) (length old.output)) where
   -- the output as the rule says, which on a refusal is as it stood
   abbrev pub after : List ℕ
-  after = arrivalOutput (receiverIn old.receiver) number channel bytes (mark_of room) old.output
+  after = arrival_output (receiver_in old.receiver) number channel bytes (mark_of room) old.output
 
-  pub arrival-refused :
+  pub arrival_refused :
       (a.refusal ≡ 0 → ⊥)
       → arrives number channel bad bytes room old
       ≡ record {
@@ -64,8 +64,8 @@ module _ (number channel bad : ℕ) (bytes : List ℕ) (room : ℕ) (old : Arriv
         };
       }
   unfolding arrives
-  arrival-refused h =
-      rw (← e) (refused-called _ _ _ h ∙ sym (ap (λ (out : List ℕ). record {
+  arrival_refused h =
+      rw (← e) (refused_called _ _ _ h ∙ sym (ap (λ (out : List ℕ). record {
         refusal = a.refusal;
         lent = record {
           receiver = old.receiver;
@@ -77,7 +77,7 @@ module _ (number channel bad : ℕ) (bytes : List ℕ) (room : ℕ) (old : Arriv
           nack = old.nack;
           reply = old.reply;
         };
-      }) (arrival-leaves (receiverIn old.receiver) number channel (mark_of bad) bytes (mark_of room) old.output
+      }) (arrival-leaves (receiver_in old.receiver) number channel (mark_of bad) bytes (mark_of room) old.output
       (λ z. h (ap (λ (x : Arrived). x.refusal) e ∙ z)))))
 
   pub arrival-done :
@@ -86,15 +86,15 @@ module _ (number channel bad : ℕ) (bytes : List ℕ) (room : ℕ) (old : Arriv
       ≡ record {
         refusal = a.refusal;
         lent = record {
-          receiver = receiverBytes a.receiver;
+          receiver = receiver_bytes a.receiver;
           output = after;
-          delivered = markNumber a.delivered;
+          delivered = mark_number a.delivered;
           channel = a.channel;
-          bad = markNumber a.bad;
+          bad = mark_number a.bad;
           size = a.length;
-          nack = markNumber a.nack;
+          nack = mark_number a.nack;
           reply = a.number;
         };
       }
   unfolding arrives
-  arrival-done h = rw (← e) (done-called _ _ _ h)
+  arrival-done h = rw (← e) (done_called _ _ _ h)

@@ -7,7 +7,7 @@ use Rattle.laws.proofs.Cases.{by_cases}
 use Rattle.host_rules.specs.Numbers.{stands, Called, called}
 
 -- where the call makes of all that is lent what stood there, it stands as it stood, whatever the number
-pub same-called : {A : Type 0} (n : ℕ) (old : A) → called n old old ≡ record { refusal = n; lent = old }
+pub same_called : {A : Type 0} (n : ℕ) (old : A) → called n old old ≡ record { refusal = n; lent = old }
 unfolding called stands
-same-called {A} n old =
+same_called {A} n old =
     by_cases (λ (l : A). ◌≡◌ {A = Called A} (record { refusal = n; lent = l }) (record { refusal = n; lent = old })) (eqb n 0) (λ t. refl) (λ t. refl)

@@ -8,97 +8,97 @@ use Rattle.retry_rules.specs.declared.Answered.{Answered}
 use Rattle.retry_rules.specs.declared.Offered.{Offered}
 use Rattle.retry_rules.specs.declared.Sent.{Sent}
 use Rattle.retry_rules.specs.declared.Ticked.{Ticked}
-use Rattle.retry_rules.specs.Fresh.{freshSenderOf, resetOf}
-use Rattle.retry_rules.specs.Offer.{offerOf, offerBuffers}
-use Rattle.retry_rules.specs.Send.{sendOf, sendOutput}
-use Rattle.retry_rules.specs.Reply.{replyOf, damagedReplyOf}
-use Rattle.retry_rules.specs.Tick.{tickOf}
+use Rattle.retry_rules.specs.Fresh.{fresh_sender_of, reset_of}
+use Rattle.retry_rules.specs.Offer.{offer_of, offer_buffers}
+use Rattle.retry_rules.specs.Send.{send_of, send_output}
+use Rattle.retry_rules.specs.Reply.{reply_of, damaged_reply_of}
+use Rattle.retry_rules.specs.Tick.{tick_of}
 use Rattle.retry_rules.proofs.Refusals.{offer-leaves, send-leaves}
-use Rattle.host_rules.specs.Numbers.{mark_of, markNumber}
-use Rattle.host_rules.proofs.Numbers.{refused-called, done-called}
-use Rattle.host_retry_rules.specs.SenderBytes.{senderIn, senderBytes}
-use Rattle.host_calls.specs.SenderCalls.{beginsSender, resets, hears, hearsDamaged, Ticks, ticks, Offers, offers, Sends, sends}
+use Rattle.host_rules.specs.Numbers.{mark_of, mark_number}
+use Rattle.host_rules.proofs.Numbers.{refused_called, done_called}
+use Rattle.host_retry_rules.specs.SenderBytes.{sender_in, sender_bytes}
+use Rattle.host_calls.specs.SenderCalls.{begins_sender, resets, hears, hears_damaged, Ticks, ticks, Offers, offers, Sends, sends}
 
-module _ (columns size : ℕ) (old : List ℕ) (a : Answered) (e : a ≡ freshSenderOf columns size) where
-  pub begin-refused : (a.refusal ≡ 0 → ⊥) → beginsSender columns size old ≡ record { refusal = a.refusal; lent = old }
-  unfolding beginsSender
-  begin-refused h = rw (← e) (refused-called _ _ _ h)
+module _ (columns size : ℕ) (old : List ℕ) (a : Answered) (e : a ≡ fresh_sender_of columns size) where
+  pub begin_refused : (a.refusal ≡ 0 → ⊥) → begins_sender columns size old ≡ record { refusal = a.refusal; lent = old }
+  unfolding begins_sender
+  begin_refused h = rw (← e) (refused_called _ _ _ h)
 
-  pub begin-done : a.refusal ≡ 0 → beginsSender columns size old ≡ record { refusal = a.refusal; lent = senderBytes a.sender }
-  unfolding beginsSender
-  begin-done h = rw (← e) (done-called _ _ _ h)
+  pub begin_done : a.refusal ≡ 0 → begins_sender columns size old ≡ record { refusal = a.refusal; lent = sender_bytes a.sender }
+  unfolding begins_sender
+  begin_done h = rw (← e) (done_called _ _ _ h)
 
-module _ (columns size : ℕ) (old : List ℕ) (a : Answered) (e : a ≡ resetOf (senderIn old) columns size) where
-  pub reset-refused : (a.refusal ≡ 0 → ⊥) → resets columns size old ≡ record { refusal = a.refusal; lent = old }
+module _ (columns size : ℕ) (old : List ℕ) (a : Answered) (e : a ≡ reset_of (sender_in old) columns size) where
+  pub reset_refused : (a.refusal ≡ 0 → ⊥) → resets columns size old ≡ record { refusal = a.refusal; lent = old }
   unfolding resets
-  reset-refused h = rw (← e) (refused-called _ _ _ h)
+  reset_refused h = rw (← e) (refused_called _ _ _ h)
 
-  pub reset-done : a.refusal ≡ 0 → resets columns size old ≡ record { refusal = a.refusal; lent = senderBytes a.sender }
+  pub reset_done : a.refusal ≡ 0 → resets columns size old ≡ record { refusal = a.refusal; lent = sender_bytes a.sender }
   unfolding resets
-  reset-done h = rw (← e) (done-called _ _ _ h)
+  reset_done h = rw (← e) (done_called _ _ _ h)
 
-module _ (nack number : ℕ) (old : List ℕ) (a : Answered) (e : a ≡ replyOf (senderIn old) (mark_of nack) number) where
-  pub reply-refused : (a.refusal ≡ 0 → ⊥) → hears nack number old ≡ record { refusal = a.refusal; lent = old }
+module _ (nack number : ℕ) (old : List ℕ) (a : Answered) (e : a ≡ reply_of (sender_in old) (mark_of nack) number) where
+  pub reply_refused : (a.refusal ≡ 0 → ⊥) → hears nack number old ≡ record { refusal = a.refusal; lent = old }
   unfolding hears
-  reply-refused h = rw (← e) (refused-called _ _ _ h)
+  reply_refused h = rw (← e) (refused_called _ _ _ h)
 
-  pub reply-done : a.refusal ≡ 0 → hears nack number old ≡ record { refusal = a.refusal; lent = senderBytes a.sender }
+  pub reply_done : a.refusal ≡ 0 → hears nack number old ≡ record { refusal = a.refusal; lent = sender_bytes a.sender }
   unfolding hears
-  reply-done h = rw (← e) (done-called _ _ _ h)
+  reply_done h = rw (← e) (done_called _ _ _ h)
 
-module _ (old : List ℕ) (a : Answered) (e : a ≡ damagedReplyOf (senderIn old)) where
-  pub damaged-refused : (a.refusal ≡ 0 → ⊥) → hearsDamaged old ≡ record { refusal = a.refusal; lent = old }
-  unfolding hearsDamaged
-  damaged-refused h = rw (← e) (refused-called _ _ _ h)
+module _ (old : List ℕ) (a : Answered) (e : a ≡ damaged_reply_of (sender_in old)) where
+  pub damaged_refused : (a.refusal ≡ 0 → ⊥) → hears_damaged old ≡ record { refusal = a.refusal; lent = old }
+  unfolding hears_damaged
+  damaged_refused h = rw (← e) (refused_called _ _ _ h)
 
-  pub damaged-done : a.refusal ≡ 0 → hearsDamaged old ≡ record { refusal = a.refusal; lent = senderBytes a.sender }
-  unfolding hearsDamaged
-  damaged-done h = rw (← e) (done-called _ _ _ h)
+  pub damaged_done : a.refusal ≡ 0 → hears_damaged old ≡ record { refusal = a.refusal; lent = sender_bytes a.sender }
+  unfolding hears_damaged
+  damaged_done h = rw (← e) (done_called _ _ _ h)
 
-module _ (old : Ticks) (a : Ticked) (e : a ≡ tickOf (senderIn old.sender)) where
-  pub tick-refused : (a.refusal ≡ 0 → ⊥) → ticks old ≡ record { refusal = a.refusal; lent = old }
+module _ (old : Ticks) (a : Ticked) (e : a ≡ tick_of (sender_in old.sender)) where
+  pub tick_refused : (a.refusal ≡ 0 → ⊥) → ticks old ≡ record { refusal = a.refusal; lent = old }
   unfolding ticks
-  tick-refused h = rw (← e) (refused-called _ _ _ h)
+  tick_refused h = rw (← e) (refused_called _ _ _ h)
 
   pub tick-done :
-      a.refusal ≡ 0 → ticks old ≡ record { refusal = a.refusal; lent = record { sender = senderBytes a.sender; fell = markNumber a.fell } }
+      a.refusal ≡ 0 → ticks old ≡ record { refusal = a.refusal; lent = record { sender = sender_bytes a.sender; fell = mark_number a.fell } }
   unfolding ticks
-  tick-done h = rw (← e) (done-called _ _ _ h)
+  tick-done h = rw (← e) (done_called _ _ _ h)
 
-module _ (channel bad : ℕ) (bytes : List ℕ) (old : Offers) (a : Offered) (e : a ≡ offerOf (senderIn old.sender)
+module _ (channel bad : ℕ) (bytes : List ℕ) (old : Offers) (a : Offered) (e : a ≡ offer_of (sender_in old.sender)
     (length old.buffers) channel (mark_of bad) (length bytes)) where
   -- the buffers as the rule says, which on a refusal are as they stood
   abbrev pub stored : List ℕ
-  stored = offerBuffers (senderIn old.sender) old.buffers channel bytes
+  stored = offer_buffers (sender_in old.sender) old.buffers channel bytes
 
-  pub offer-refused :
+  pub offer_refused :
       (a.refusal ≡ 0 → ⊥)
       → offers channel bad bytes old ≡ record { refusal = a.refusal; lent = record { sender = old.sender; buffers = stored; number = old.number } }
   unfolding offers
-  offer-refused h =
-      rw (← e) (refused-called _ _ _ h ∙ sym (ap (λ (out : List ℕ). record {
+  offer_refused h =
+      rw (← e) (refused_called _ _ _ h ∙ sym (ap (λ (out : List ℕ). record {
         refusal = a.refusal;
         lent = record {
           sender = old.sender;
           buffers = out;
           number = old.number;
         };
-      }) (offer-leaves (senderIn old.sender)
+      }) (offer-leaves (sender_in old.sender)
       old.buffers channel (mark_of bad) bytes (λ z. h (ap (λ (x : Offered). x.refusal) e ∙ z)))))
 
   pub offer-done :
       a.refusal ≡ 0
       → offers channel bad bytes old
-      ≡ record { refusal = a.refusal; lent = record { sender = senderBytes a.sender; buffers = stored; number = a.number } }
+      ≡ record { refusal = a.refusal; lent = record { sender = sender_bytes a.sender; buffers = stored; number = a.number } }
   unfolding offers
-  offer-done h = rw (← e) (done-called _ _ _ h)
+  offer-done h = rw (← e) (done_called _ _ _ h)
 
-module _ (buffers : List ℕ) (old : Sends) (a : Sent) (e : a ≡ sendOf (senderIn old.sender) (length buffers) (length old.output)) where
+module _ (buffers : List ℕ) (old : Sends) (a : Sent) (e : a ≡ send_of (sender_in old.sender) (length buffers) (length old.output)) where
   -- the output as the rule says, which on a refusal is as it stood
   abbrev pub after : List ℕ
-  after = sendOutput (senderIn old.sender) buffers old.output
+  after = send_output (sender_in old.sender) buffers old.output
 
-  pub send-refused :
+  pub send_refused :
       (a.refusal ≡ 0 → ⊥)
       → sends buffers old
       ≡ record {
@@ -114,8 +114,8 @@ module _ (buffers : List ℕ) (old : Sends) (a : Sent) (e : a ≡ sendOf (sender
         };
       }
   unfolding sends
-  send-refused h =
-      rw (← e) (refused-called _ _ _ h ∙ sym (ap (λ (out : List ℕ). record {
+  send_refused h =
+      rw (← e) (refused_called _ _ _ h ∙ sym (ap (λ (out : List ℕ). record {
         refusal = a.refusal;
         lent = record {
           sender = old.sender;
@@ -126,22 +126,22 @@ module _ (buffers : List ℕ) (old : Sends) (a : Sent) (e : a ≡ sendOf (sender
           bad = old.bad;
           size = old.size;
         };
-      }) (send-leaves (senderIn old.sender) buffers old.output (λ z. h (ap (λ (x : Sent). x.refusal) e ∙ z)))))
+      }) (send-leaves (sender_in old.sender) buffers old.output (λ z. h (ap (λ (x : Sent). x.refusal) e ∙ z)))))
 
-  pub send-done :
+  pub send_done :
       a.refusal ≡ 0
       → sends buffers old
       ≡ record {
         refusal = a.refusal;
         lent = record {
-          sender = senderBytes a.sender;
+          sender = sender_bytes a.sender;
           output = after;
-          sent = markNumber a.sent;
+          sent = mark_number a.sent;
           number = a.number;
           channel = a.channel;
-          bad = markNumber a.bad;
+          bad = mark_number a.bad;
           size = a.length;
         };
       }
   unfolding sends
-  send-done h = rw (← e) (done-called _ _ _ h)
+  send_done h = rw (← e) (done_called _ _ _ h)

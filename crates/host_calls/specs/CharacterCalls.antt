@@ -1,9 +1,9 @@
 -- What writing and reading characters comes to for C: the refusal's number, and what all that is lent holds afterwards, given what stood there.
 use Rattle.std.specs.Prelude.{ℕ, List, ℤ, length}
 use Rattle.character_rules.specs.Reading.{reading}
-use Rattle.character_rules.specs.Results.{runReading, runOutput}
-use Rattle.host_rules.specs.Numbers.{orOld, Called, called}
-use Rattle.host_rules.specs.Characters.{writingNumbers, byteIn, controlIn}
+use Rattle.character_rules.specs.Results.{run_reading, run_output}
+use Rattle.host_rules.specs.Numbers.{or_old, Called, called}
+use Rattle.host_rules.specs.Characters.{writing_numbers, byte_in, control_in}
 
 pub record Writes : Type 0 where
   pub disparity : ℤ
@@ -12,9 +12,9 @@ pub record Writes : Type 0 where
 -- a symbol, a byte and a mark, is written as a character; the disparity becomes the closing one
 unfoldable pub writes : ℕ → ℕ → Writes → Called Writes
 writes byte control old =
-    let said = writingNumbers byte control old.disparity in
+    let said = writing_numbers byte control old.disparity in
     called said.refusal old
-    (record { disparity = orOld said.disparity old.disparity; character = orOld said.character old.character })
+    (record { disparity = or_old said.disparity old.disparity; character = or_old said.character old.character })
 
 pub record Reads : Type 0 where
   pub disparity : ℤ
@@ -28,10 +28,10 @@ reads character old =
     let said = reading character old.disparity in
     called said.refusal old
     (record {
-      disparity = orOld said.disparity old.disparity;
+      disparity = or_old said.disparity old.disparity;
       violation = said.violation;
-      byte = byteIn said.symbol;
-      control = controlIn said.symbol;
+      byte = byte_in said.symbol;
+      control = control_in said.symbol;
     })
 
 pub record ReadsRun : Type 0 where
@@ -39,8 +39,8 @@ pub record ReadsRun : Type 0 where
   pub results : List ℕ
 
 -- a run of characters is read into packed results; the disparity becomes the one after the run
-unfoldable pub readsRun : List ℕ → ReadsRun → Called ReadsRun
-readsRun characters old =
-    let said = runReading characters old.disparity (length old.results) in
+unfoldable pub reads_run : List ℕ → ReadsRun → Called ReadsRun
+reads_run characters old =
+    let said = run_reading characters old.disparity (length old.results) in
     called said.refusal old
-    (record { disparity = orOld said.disparity old.disparity; results = runOutput characters old.disparity old.results })
+    (record { disparity = or_old said.disparity old.disparity; results = run_output characters old.disparity old.results })

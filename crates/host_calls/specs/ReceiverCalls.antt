@@ -1,15 +1,15 @@
 -- What the receiver's calls come to for C: the refusal's number, and what all that is lent holds afterwards, given what stood there.
 use Rattle.std.specs.Prelude.{ℕ, List, length}
-use Rattle.retry_rules.specs.Fresh.{freshReceiverOf}
-use Rattle.retry_rules.specs.Arrival.{arrivalOf, arrivalOutput, damagedArrivalOf}
-use Rattle.host_rules.specs.Numbers.{mark_of, markNumber, Called, called}
-use Rattle.host_retry_rules.specs.ReceiverBytes.{receiverIn, receiverBytes}
+use Rattle.retry_rules.specs.Fresh.{fresh_receiver_of}
+use Rattle.retry_rules.specs.Arrival.{arrival_of, arrival_output, damaged_arrival_of}
+use Rattle.host_rules.specs.Numbers.{mark_of, mark_number, Called, called}
+use Rattle.host_retry_rules.specs.ReceiverBytes.{receiver_in, receiver_bytes}
 
 -- a fresh receiver with S
-unfoldable pub beginsReceiver : ℕ → List ℕ → Called (List ℕ)
-beginsReceiver size old =
-    let answer = freshReceiverOf size in
-    called answer.refusal old (receiverBytes answer.receiver)
+unfoldable pub begins_receiver : ℕ → List ℕ → Called (List ℕ)
+begins_receiver size old =
+    let answer = fresh_receiver_of size in
+    called answer.refusal old (receiver_bytes answer.receiver)
 
 pub record Arrives : Type 0 where
   pub receiver : List ℕ
@@ -24,17 +24,17 @@ pub record Arrives : Type 0 where
 -- a segment arrives: what is delivered, with its channel, mark and length (else zeros), and the reply
 unfoldable pub arrives : ℕ → ℕ → ℕ → List ℕ → ℕ → Arrives → Called Arrives
 arrives number channel bad bytes room old =
-    let r = receiverIn old.receiver in
-    let answer = arrivalOf r number channel (mark_of bad) (length bytes) (mark_of room) (length old.output) in
+    let r = receiver_in old.receiver in
+    let answer = arrival_of r number channel (mark_of bad) (length bytes) (mark_of room) (length old.output) in
     called answer.refusal old
     (record {
-      receiver = receiverBytes answer.receiver;
-      output = arrivalOutput r number channel bytes (mark_of room) old.output;
-      delivered = markNumber answer.delivered;
+      receiver = receiver_bytes answer.receiver;
+      output = arrival_output r number channel bytes (mark_of room) old.output;
+      delivered = mark_number answer.delivered;
       channel = answer.channel;
-      bad = markNumber answer.bad;
+      bad = mark_number answer.bad;
       size = answer.length;
-      nack = markNumber answer.nack;
+      nack = mark_number answer.nack;
       reply = answer.number;
     })
 
@@ -44,8 +44,8 @@ pub record ArrivesDamaged : Type 0 where
   pub reply : ℕ
 
 -- a damaged segment arrives: the reply
-unfoldable pub arrivesDamaged : ArrivesDamaged → Called ArrivesDamaged
-arrivesDamaged old =
-    let answer = damagedArrivalOf (receiverIn old.receiver) in
+unfoldable pub arrives_damaged : ArrivesDamaged → Called ArrivesDamaged
+arrives_damaged old =
+    let answer = damaged_arrival_of (receiver_in old.receiver) in
     called answer.refusal old
-    (record { receiver = receiverBytes answer.receiver; nack = markNumber answer.nack; reply = answer.number })
+    (record { receiver = receiver_bytes answer.receiver; nack = mark_number answer.nack; reply = answer.number })

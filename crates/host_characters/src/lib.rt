@@ -1,6 +1,6 @@
 // What C calls to write and read characters.
 ghost use Rattle.std.specs.Prelude.{◌≡◌};
-ghost use Rattle.host_calls.specs.CharacterCalls.{writes, Reads, reads, readsRun};
+ghost use Rattle.host_calls.specs.CharacterCalls.{writes, Reads, reads, reads_run};
 
 use character_rules::{Decoded, Encoded, RunRead};
 use host_marks::mark_number;
@@ -91,7 +91,7 @@ pub extern "C" fn buzz_read_characters(
     disparity: &mut i32,
     results: &mut [u16],
 ) -> u32
-    ensures { let after = readsRun characters.now (record { disparity = disparity.entry.now; results = results.old }) in
+    ensures { let after = reads_run characters.now (record { disparity = disparity.entry.now; results = results.old }) in
         (result ≡ after.refusal) × (disparity.exit.now ≡ after.lent.disparity) × (results.new ≡ after.lent.results) }
 {
     let answer = run_reader::read_run(characters, *disparity, results);

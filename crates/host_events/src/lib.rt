@@ -1,13 +1,13 @@
 // What C calls to read a whole capture into events, an event a character, the reader's state in 15 lent bytes.
 ghost use Rattle.std.specs.Prelude.{◌≡◌, length};
-ghost use Rattle.events_rules.specs.Events.{notReadCapture};
-ghost use Rattle.host_calls.specs.EventCalls.{captureNumbers, eventsNumbers, ReadsCapture, readsCapture};
+ghost use Rattle.events_rules.specs.Events.{not_read_capture};
+ghost use Rattle.host_calls.specs.EventCalls.{capture_numbers, events_numbers, ReadsCapture, reads_capture};
 
 use events_rules::CaptureRead;
 use packet_rules::Reader;
 
 fn not_read(refusal: u8, reader: Reader, disparity: i32) -> CaptureRead
-    ensures { result ≡ notReadCapture reader disparity refusal }
+    ensures { result ≡ not_read_capture reader disparity refusal }
 {
     CaptureRead {
         refusal,
@@ -19,8 +19,8 @@ fn not_read(refusal: u8, reader: Reader, disparity: i32) -> CaptureRead
 
 // A capture read by a reader in bytes: refusal 8 before bytes that encode no state.
 fn read(capture: &[u8], bytes: [u8; 15], disparity: i32, events: &mut [u32]) -> CaptureRead
-    ensures { (result ≡ captureNumbers capture.now bytes disparity (length events.old))
-        × (events.new ≡ eventsNumbers capture.now bytes disparity events.old) }
+    ensures { (result ≡ capture_numbers capture.now bytes disparity (length events.old))
+        × (events.new ≡ events_numbers capture.now bytes disparity events.old) }
 {
     let given = host_reader::reader_in(bytes);
     if !capture::is_legal(capture) {
@@ -47,7 +47,7 @@ pub extern "C" fn buzz_read_capture(
       events = events.old;
       count = count.old;
     } in
-        let after = readsCapture capture.now old in
+        let after = reads_capture capture.now old in
         (result ≡ after.refusal) × (reader.exit.now ≡ after.lent.reader) × (disparity.new ≡ after.lent.disparity)
         × (events.new ≡ after.lent.events) × (count.new ≡ after.lent.count)) }
 {

@@ -7,11 +7,11 @@ use mathlib.Core.List.{List, [], ◌∷◌}
 use lib.Dec.{eqb}
 use native.Mathlib.Omega.{arith}
 use borrow.Author.Tests.{eqb-true}
-use Rattle.laws.proofs.Cases.{first-true, second-true}
+use Rattle.laws.proofs.Cases.{first_true, second_true}
 use Rattle.packet_rules.specs.declared.DataPacket.{DataPacket}
 use Rattle.packet_rules.specs.declared.PriorityPacket.{PriorityPacket}
 use Rattle.packet_rules.specs.declared.Phase.{Phase}
-use Rattle.host_rules.specs.ReaderBytes.{two, packetTag, packetChannel, packetRegister, packetOf, packetFits, priorityTag, priorityOpening, priorityCount, priorityRegister, priorityOf, priorityFits, phaseTag, phaseFirst, phaseSecond, phaseOf, phaseFits, readerBytes, readerIn, isReader}
+use Rattle.host_rules.specs.ReaderBytes.{two, packet_tag, packet_channel, packet_register, packet_of, packet_fits, priority_tag, priority_opening, priority_count, priority_register, priority_of, priority_fits, phase_tag, phase_first, phase_second, phase_of, phase_fits, reader_bytes, reader_in, is_reader}
 
 also : {x y : ℕ} {xs ys : List ℕ} → x ≡ y → xs ≡ ys → x ∷ xs ≡ y ∷ ys
 also {x} {y} {xs} {ys} p q = ap (λ (z : ℕ). z ∷ xs) p ∙ ap (λ (zs : List ℕ). y ∷ zs) q
@@ -22,85 +22,85 @@ high n h l small e = omega arith
 low : (n h l : ℕ) → l < 256 → n ≡ two h l → n % 256 ≡ l
 low n h l small e = omega arith
 
-module _ (p : DataPacket) (tag channel register : ℕ) (fits : packetFits p tag channel register ≡ true) where
-  its-tag : packetTag p ≡ tag
-  unfolding packetFits
-  its-tag = eqb-true _ _ (first-true (eqb (packetTag p) tag) _ fits)
+module _ (p : DataPacket) (tag channel register : ℕ) (fits : packet_fits p tag channel register ≡ true) where
+  its_tag : packet_tag p ≡ tag
+  unfolding packet_fits
+  its_tag = eqb-true _ _ (first_true (eqb (packet_tag p) tag) _ fits)
 
-  its-channel : packetChannel p ≡ channel
-  unfolding packetFits
-  its-channel = eqb-true _ _ (first-true (eqb (packetChannel p) channel) _ (second-true (eqb (packetTag p) tag) _ fits))
+  its_channel : packet_channel p ≡ channel
+  unfolding packet_fits
+  its_channel = eqb-true _ _ (first_true (eqb (packet_channel p) channel) _ (second_true (eqb (packet_tag p) tag) _ fits))
 
-  its-register : packetRegister p ≡ register
-  unfolding packetFits
-  its-register = eqb-true _ _ (second-true (eqb (packetChannel p) channel) _ (second-true (eqb (packetTag p) tag) _ fits))
+  its_register : packet_register p ≡ register
+  unfolding packet_fits
+  its_register = eqb-true _ _ (second_true (eqb (packet_channel p) channel) _ (second_true (eqb (packet_tag p) tag) _ fits))
 
-module _ (p : PriorityPacket) (tag opening count register : ℕ) (fits : priorityFits p tag opening count register ≡ true) where
-  priority-tag : priorityTag p ≡ tag
-  unfolding priorityFits
-  priority-tag = eqb-true _ _ (first-true (eqb (priorityTag p) tag) _ fits)
+module _ (p : PriorityPacket) (tag opening count register : ℕ) (fits : priority_fits p tag opening count register ≡ true) where
+  priority_tag_lem : priority_tag p ≡ tag
+  unfolding priority_fits
+  priority_tag_lem = eqb-true _ _ (first_true (eqb (priority_tag p) tag) _ fits)
 
-  priority-opening : priorityOpening p ≡ opening
-  unfolding priorityFits
-  priority-opening = eqb-true _ _ (first-true (eqb (priorityOpening p) opening) _ (second-true (eqb (priorityTag p) tag) _ fits))
+  priority_opening_lem : priority_opening p ≡ opening
+  unfolding priority_fits
+  priority_opening_lem = eqb-true _ _ (first_true (eqb (priority_opening p) opening) _ (second_true (eqb (priority_tag p) tag) _ fits))
 
-  priority-count : priorityCount p ≡ count
-  unfolding priorityFits
-  priority-count =
-      eqb-true _ _ (first-true (eqb (priorityCount p) count) _
-      (second-true (eqb (priorityOpening p) opening) _ (second-true (eqb (priorityTag p) tag) _ fits)))
+  priority_count_lem : priority_count p ≡ count
+  unfolding priority_fits
+  priority_count_lem =
+      eqb-true _ _ (first_true (eqb (priority_count p) count) _
+      (second_true (eqb (priority_opening p) opening) _ (second_true (eqb (priority_tag p) tag) _ fits)))
 
-  priority-register : priorityRegister p ≡ register
-  unfolding priorityFits
-  priority-register =
-      eqb-true _ _ (second-true (eqb (priorityCount p) count) _
-      (second-true (eqb (priorityOpening p) opening) _ (second-true (eqb (priorityTag p) tag) _ fits)))
+  priority_register_lem : priority_register p ≡ register
+  unfolding priority_fits
+  priority_register_lem =
+      eqb-true _ _ (second_true (eqb (priority_count p) count) _
+      (second_true (eqb (priority_opening p) opening) _ (second_true (eqb (priority_tag p) tag) _ fits)))
 
-module _ (p : Phase) (tag a b : ℕ) (fits : phaseFits p tag a b ≡ true) where
-  phase-tag : phaseTag p ≡ tag
-  unfolding phaseFits
-  phase-tag = eqb-true _ _ (first-true (eqb (phaseTag p) tag) _ fits)
+module _ (p : Phase) (tag a b : ℕ) (fits : phase_fits p tag a b ≡ true) where
+  phase_tag_lem : phase_tag p ≡ tag
+  unfolding phase_fits
+  phase_tag_lem = eqb-true _ _ (first_true (eqb (phase_tag p) tag) _ fits)
 
-  phase-first : phaseFirst p ≡ a
-  unfolding phaseFits
-  phase-first = eqb-true _ _ (first-true (eqb (phaseFirst p) a) _ (second-true (eqb (phaseTag p) tag) _ fits))
+  phase_first_lem : phase_first p ≡ a
+  unfolding phase_fits
+  phase_first_lem = eqb-true _ _ (first_true (eqb (phase_first p) a) _ (second_true (eqb (phase_tag p) tag) _ fits))
 
-  phase-second : phaseSecond p ≡ b
-  unfolding phaseFits
-  phase-second = eqb-true _ _ (second-true (eqb (phaseFirst p) a) _ (second-true (eqb (phaseTag p) tag) _ fits))
+  phase_second_lem : phase_second p ≡ b
+  unfolding phase_fits
+  phase_second_lem = eqb-true _ _ (second_true (eqb (phase_first p) a) _ (second_true (eqb (phase_tag p) tag) _ fits))
 
 module _ (b0 b1 b2 b3 b4 b5 b6 b7 b8 b9 b10 b11 b12 b13 b14 : ℕ) (s1 : b1 < 256) (s5 : b5 < 256) (s9 : b9 < 256) (s11 : b11 < 256) where
   abbrev pub bytes : List ℕ
   bytes = b0 ∷ b1 ∷ b2 ∷ b3 ∷ b4 ∷ b5 ∷ b6 ∷ b7 ∷ b8 ∷ b9 ∷ b10 ∷ b11 ∷ b12 ∷ b13 ∷ b14 ∷ []
 
   abbrev packet : DataPacket
-  packet = packetOf b2 b3 (two b4 b5)
+  packet = packet_of b2 b3 (two b4 b5)
 
   abbrev priority : PriorityPacket
-  priority = priorityOf b6 b7 (two b8 b9) (two b10 b11)
+  priority = priority_of b6 b7 (two b8 b9) (two b10 b11)
 
   abbrev phase : Phase
-  phase = phaseOf b12 b13 b14
+  phase = phase_of b12 b13 b14
 
-  module _ (p : packetFits packet b2 b3 (two b4 b5) ≡ true) (q : priorityFits priority b6 b7 (two b8 b9) (two b10 b11) ≡ true)
-      (r : phaseFits phase b12 b13 b14 ≡ true) where
-    part-by-part : readerBytes (readerIn bytes) ≡ bytes
-    unfolding readerBytes readerIn
-    part-by-part =
+  module _ (p : packet_fits packet b2 b3 (two b4 b5) ≡ true) (q : priority_fits priority b6 b7 (two b8 b9) (two b10 b11) ≡ true)
+      (r : phase_fits phase b12 b13 b14 ≡ true) where
+    part_by_part : reader_bytes (reader_in bytes) ≡ bytes
+    unfolding reader_bytes reader_in
+    part_by_part =
         also (high (two b0 b1) b0 b1 s1 refl) (also (low (two b0 b1) b0 b1 s1 refl)
-        (also (its-tag packet b2 b3 (two b4 b5) p) (also (its-channel packet b2 b3 (two b4 b5) p)
-        (also (high _ b4 b5 s5 (its-register packet b2 b3 (two b4 b5) p)) (also (low _ b4 b5 s5 (its-register packet b2 b3 (two b4 b5) p))
-        (also (priority-tag priority b6 b7 (two b8 b9) (two b10 b11) q) (also (priority-opening priority b6 b7 (two b8 b9) (two b10 b11) q)
-        (also (high _ b8 b9 s9 (priority-count priority b6 b7 (two b8 b9) (two b10 b11) q))
-        (also (low _ b8 b9 s9 (priority-count priority b6 b7 (two b8 b9) (two b10 b11) q))
-        (also (high _ b10 b11 s11 (priority-register priority b6 b7 (two b8 b9) (two b10 b11) q))
-        (also (low _ b10 b11 s11 (priority-register priority b6 b7 (two b8 b9) (two b10 b11) q))
-        (also (phase-tag phase b12 b13 b14 r) (also (phase-first phase b12 b13 b14 r) (also (phase-second phase b12 b13 b14 r) refl))))))))))))))
+        (also (its_tag packet b2 b3 (two b4 b5) p) (also (its_channel packet b2 b3 (two b4 b5) p)
+        (also (high _ b4 b5 s5 (its_register packet b2 b3 (two b4 b5) p)) (also (low _ b4 b5 s5 (its_register packet b2 b3 (two b4 b5) p))
+        (also (priority_tag_lem priority b6 b7 (two b8 b9) (two b10 b11) q) (also (priority_opening_lem priority b6 b7 (two b8 b9) (two b10 b11) q)
+        (also (high _ b8 b9 s9 (priority_count_lem priority b6 b7 (two b8 b9) (two b10 b11) q))
+        (also (low _ b8 b9 s9 (priority_count_lem priority b6 b7 (two b8 b9) (two b10 b11) q))
+        (also (high _ b10 b11 s11 (priority_register_lem priority b6 b7 (two b8 b9) (two b10 b11) q))
+        (also (low _ b10 b11 s11 (priority_register_lem priority b6 b7 (two b8 b9) (two b10 b11) q))
+        (also (phase_tag_lem phase b12 b13 b14 r) (also (phase_first_lem phase b12 b13 b14 r) (also (phase_second_lem phase b12 b13 b14 r) refl))))))))))))))
 
-  pub reader-same : isReader bytes ≡ true → readerBytes (readerIn bytes) ≡ bytes
-  unfolding isReader
-  reader-same fits =
-      part-by-part
-      (first-true (packetFits packet b2 b3 (two b4 b5)) _ fits)
-      (first-true (priorityFits priority b6 b7 (two b8 b9) (two b10 b11)) _ (second-true (packetFits packet b2 b3 (two b4 b5)) _ fits))
-      (second-true (priorityFits priority b6 b7 (two b8 b9) (two b10 b11)) _ (second-true (packetFits packet b2 b3 (two b4 b5)) _ fits))
+  pub reader_same : is_reader bytes ≡ true → reader_bytes (reader_in bytes) ≡ bytes
+  unfolding is_reader
+  reader_same fits =
+      part_by_part
+      (first_true (packet_fits packet b2 b3 (two b4 b5)) _ fits)
+      (first_true (priority_fits priority b6 b7 (two b8 b9) (two b10 b11)) _ (second_true (packet_fits packet b2 b3 (two b4 b5)) _ fits))
+      (second_true (priority_fits priority b6 b7 (two b8 b9) (two b10 b11)) _ (second_true (packet_fits packet b2 b3 (two b4 b5)) _ fits))

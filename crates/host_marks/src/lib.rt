@@ -1,10 +1,10 @@
 // A mark that is handed out.
 ghost use Rattle.std.specs.Prelude.{◌≡◌};
-ghost use Rattle.host_rules.specs.Numbers.{markNumber};
+ghost use Rattle.host_rules.specs.Numbers.{mark_number};
 
 // 0 or 1.
 pub fn mark_number(mark: bool) -> u32
-    ensures { result ≡ markNumber mark }
+    ensures { result ≡ mark_number mark }
 {
     if mark { 1 } else { 0 }
 }

@@ -1,8 +1,8 @@
 // The packet writer: one whole data packet, priority packet or retry LMP a call, as characters in the front of a lent run.
 ghost use Rattle.std.specs.Prelude.{◌≡◌};
-ghost use Rattle.packet_rules.specs.Packets.{inData, inPriority, retry};
+ghost use Rattle.packet_rules.specs.Packets.{in_data, in_priority, retry};
 ghost use Rattle.host_rules.specs.Numbers.{mark_of};
-ghost use Rattle.host_calls.specs.PacketCalls.{WritesPacket, writesPacket};
+ghost use Rattle.host_calls.specs.PacketCalls.{WritesPacket, writes_packet};
 
 use packet_rules::Written;
 
@@ -17,7 +17,7 @@ pub extern "C" fn buzz_write_data(
     count: &mut usize,
 ) -> u32
     ensures { (let old : WritesPacket = record { disparity = disparity.entry.now; characters = characters.old; count = count.old } in
-        let after = writesPacket 0 (inData channel bytes.now (mark_of bad)) old in
+        let after = writes_packet 0 (in_data channel bytes.now (mark_of bad)) old in
         (result ≡ after.refusal) × (disparity.exit.now ≡ after.lent.disparity) × (characters.new ≡ after.lent.characters)
         × (count.new ≡ after.lent.count)) }
 {
@@ -48,7 +48,7 @@ pub extern "C" fn buzz_write_priority(
     count: &mut usize,
 ) -> u32
     ensures { (let old : WritesPacket = record { disparity = disparity.entry.now; characters = characters.old; count = count.old } in
-        let after = writesPacket size (inPriority channel segment bytes.now (mark_of bad)) old in
+        let after = writes_packet size (in_priority channel segment bytes.now (mark_of bad)) old in
         (result ≡ after.refusal) × (disparity.exit.now ≡ after.lent.disparity) × (characters.new ≡ after.lent.characters)
         × (count.new ≡ after.lent.count)) }
 {
@@ -84,7 +84,7 @@ pub extern "C" fn buzz_write_lmp(
     count: &mut usize,
 ) -> u32
     ensures { (let old : WritesPacket = record { disparity = disparity.entry.now; characters = characters.old; count = count.old } in
-        let after = writesPacket 0 (retry (mark_of nack) number) old in
+        let after = writes_packet 0 (retry (mark_of nack) number) old in
         (result ≡ after.refusal) × (disparity.exit.now ≡ after.lent.disparity) × (characters.new ≡ after.lent.characters)
         × (count.new ≡ after.lent.count)) }
 {

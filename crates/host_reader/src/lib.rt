@@ -1,6 +1,6 @@
 // The packet reader's state from its 15 bytes.
 ghost use Rattle.std.specs.Prelude.{◌≡◌};
-ghost use Rattle.host_rules.specs.ReaderBytes.{two, packetOf, priorityOf, phaseOf, readerIn};
+ghost use Rattle.host_rules.specs.ReaderBytes.{two, packet_of, priority_of, phase_of, reader_in};
 
 use packet_rules::{DataPacket, Due, Phase, PriorityPacket, Reader};
 
@@ -11,7 +11,7 @@ fn two(high: u8, low: u8) -> u16
 }
 
 fn packet_of(tag: u8, channel: u8, register: u16) -> DataPacket
-    ensures { result ≡ packetOf tag channel register }
+    ensures { result ≡ packet_of tag channel register }
 {
     match tag {
         1 => DataPacket::InData {
@@ -29,7 +29,7 @@ fn packet_of(tag: u8, channel: u8, register: u16) -> DataPacket
 }
 
 fn priority_of(tag: u8, opening: u8, count: u16, register: u16) -> PriorityPacket
-    ensures { result ≡ priorityOf tag opening count register }
+    ensures { result ≡ priority_of tag opening count register }
 {
     match tag {
         1 => PriorityPacket::InPriority {
@@ -42,7 +42,7 @@ fn priority_of(tag: u8, opening: u8, count: u16, register: u16) -> PriorityPacke
 }
 
 fn phase_of(tag: u8, a: u8, b: u8) -> Phase
-    ensures { result ≡ phaseOf tag a b }
+    ensures { result ≡ phase_of tag a b }
 {
     let mark = a != 0;
     match tag {
@@ -62,7 +62,7 @@ fn phase_of(tag: u8, a: u8, b: u8) -> Phase
 
 // The state that bytes stand for.
 pub fn reader_in(b: [u8; 15]) -> Reader
-    ensures { result ≡ readerIn b }
+    ensures { result ≡ reader_in b }
 {
     let size = two(b[0], b[1]);
     let packet = packet_of(b[2], b[3], two(b[4], b[5]));

@@ -1,12 +1,12 @@
 // Whether bytes are the encoding of each part of a state.
 ghost use Rattle.std.specs.Prelude.{◌≡◌};
-ghost use Rattle.host_rules.specs.ReaderBytes.{two, packetFits, priorityFits, phaseFits};
+ghost use Rattle.host_rules.specs.ReaderBytes.{two, packet_fits, priority_fits, phase_fits};
 
 use crate::parts;
 use packet_rules::{DataPacket, Phase, PriorityPacket};
 
 pub fn packet_fits(p: DataPacket, tag: u8, channel: u8, high: u8, low: u8) -> bool
-    ensures { result ≡ packetFits p tag channel (two high low) }
+    ensures { result ≡ packet_fits p tag channel (two high low) }
 {
     if parts::packet_tag(p) != tag {
         return false;
@@ -26,7 +26,7 @@ pub fn priority_fits(
     high: u8,
     low: u8,
 ) -> bool
-    ensures { result ≡ priorityFits p tag opening (two count_high count_low) (two high low) }
+    ensures { result ≡ priority_fits p tag opening (two count_high count_low) (two high low) }
 {
     if parts::priority_tag(p) != tag {
         return false;
@@ -41,7 +41,7 @@ pub fn priority_fits(
 }
 
 pub fn phase_fits(p: Phase, tag: u8, a: u8, b: u8) -> bool
-    ensures { result ≡ phaseFits p tag a b }
+    ensures { result ≡ phase_fits p tag a b }
 {
     if parts::phase_tag(p) != tag {
         return false;

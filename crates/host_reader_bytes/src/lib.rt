@@ -3,13 +3,13 @@ mod fits;
 mod parts;
 
 ghost use Rattle.std.specs.Prelude.{◌≡◌};
-ghost use Rattle.host_rules.specs.ReaderBytes.{readerBytes, isReader};
+ghost use Rattle.host_rules.specs.ReaderBytes.{reader_bytes, is_reader};
 
 use packet_rules::Reader;
 
 // A state as its bytes.
 pub fn reader_bytes(r: Reader) -> [u8; 15]
-    ensures { result ≡ readerBytes r }
+    ensures { result ≡ reader_bytes r }
 {
     let size = r.size;
     let packet = r.packet;
@@ -39,7 +39,7 @@ pub fn reader_bytes(r: Reader) -> [u8; 15]
 
 // Whether bytes are the encoding of the state that they stand for.
 pub fn is_reader(b: [u8; 15]) -> bool
-    ensures { result ≡ isReader b }
+    ensures { result ≡ is_reader b }
 {
     let reader = host_reader::reader_in(b);
     let packet = reader.packet;

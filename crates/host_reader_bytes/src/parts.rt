@@ -1,19 +1,19 @@
 // The tags and bytes of each part of a state.
 ghost use Rattle.std.specs.Prelude.{◌≡◌};
-ghost use Rattle.host_rules.specs.Numbers.{markNumber};
-ghost use Rattle.host_rules.specs.ReaderBytes.{packetTag, packetChannel, packetRegister, priorityTag, priorityOpening, priorityCount, priorityRegister};
-ghost use Rattle.host_rules.specs.ReaderBytes.{dueTag, dueFirst, dueSecond, phaseTag, phaseFirst, phaseSecond};
+ghost use Rattle.host_rules.specs.Numbers.{mark_number};
+ghost use Rattle.host_rules.specs.ReaderBytes.{packet_tag, packet_channel, packet_register, priority_tag, priority_opening, priority_count, priority_register};
+ghost use Rattle.host_rules.specs.ReaderBytes.{due_tag, due_first, due_second, phase_tag, phase_first, phase_second};
 
 use packet_rules::{DataPacket, Due, Phase, PriorityPacket};
 
 pub fn mark_number(mark: bool) -> u8
-    ensures { result ≡ markNumber mark }
+    ensures { result ≡ mark_number mark }
 {
     if mark { 1 } else { 0 }
 }
 
 pub fn packet_tag(p: DataPacket) -> u8
-    ensures { result ≡ packetTag p }
+    ensures { result ≡ packet_tag p }
 {
     match p {
         DataPacket::NoData => 0,
@@ -22,7 +22,7 @@ pub fn packet_tag(p: DataPacket) -> u8
 }
 
 pub fn packet_channel(p: DataPacket) -> u8
-    ensures { result ≡ packetChannel p }
+    ensures { result ≡ packet_channel p }
 {
     match p {
         DataPacket::NoData => 0,
@@ -31,7 +31,7 @@ pub fn packet_channel(p: DataPacket) -> u8
 }
 
 pub fn packet_register(p: DataPacket) -> u16
-    ensures { result ≡ packetRegister p }
+    ensures { result ≡ packet_register p }
 {
     match p {
         DataPacket::NoData => 0,
@@ -40,7 +40,7 @@ pub fn packet_register(p: DataPacket) -> u16
 }
 
 pub fn priority_tag(p: PriorityPacket) -> u8
-    ensures { result ≡ priorityTag p }
+    ensures { result ≡ priority_tag p }
 {
     match p {
         PriorityPacket::NoPriority => 0,
@@ -49,7 +49,7 @@ pub fn priority_tag(p: PriorityPacket) -> u8
 }
 
 pub fn priority_opening(p: PriorityPacket) -> u8
-    ensures { result ≡ priorityOpening p }
+    ensures { result ≡ priority_opening p }
 {
     match p {
         PriorityPacket::NoPriority => 0,
@@ -58,7 +58,7 @@ pub fn priority_opening(p: PriorityPacket) -> u8
 }
 
 pub fn priority_count(p: PriorityPacket) -> u16
-    ensures { result ≡ priorityCount p }
+    ensures { result ≡ priority_count p }
 {
     match p {
         PriorityPacket::NoPriority => 0,
@@ -67,7 +67,7 @@ pub fn priority_count(p: PriorityPacket) -> u16
 }
 
 pub fn priority_register(p: PriorityPacket) -> u16
-    ensures { result ≡ priorityRegister p }
+    ensures { result ≡ priority_register p }
 {
     match p {
         PriorityPacket::NoPriority => 0,
@@ -76,7 +76,7 @@ pub fn priority_register(p: PriorityPacket) -> u16
 }
 
 fn due_tag(due: Due) -> u8
-    ensures { result ≡ dueTag due }
+    ensures { result ≡ due_tag due }
 {
     match due {
         Due::Channel => 3,
@@ -91,7 +91,7 @@ fn due_tag(due: Due) -> u8
 }
 
 fn due_first(due: Due) -> u8
-    ensures { result ≡ dueFirst due }
+    ensures { result ≡ due_first due }
 {
     match due {
         Due::Channel => 0,
@@ -106,7 +106,7 @@ fn due_first(due: Due) -> u8
 }
 
 fn due_second(due: Due) -> u8
-    ensures { result ≡ dueSecond due }
+    ensures { result ≡ due_second due }
 {
     match due {
         Due::Channel => 0,
@@ -121,7 +121,7 @@ fn due_second(due: Due) -> u8
 }
 
 pub fn phase_tag(p: Phase) -> u8
-    ensures { result ≡ phaseTag p }
+    ensures { result ≡ phase_tag p }
 {
     match p {
         Phase::Free => 0,
@@ -132,7 +132,7 @@ pub fn phase_tag(p: Phase) -> u8
 }
 
 pub fn phase_first(p: Phase) -> u8
-    ensures { result ≡ phaseFirst p }
+    ensures { result ≡ phase_first p }
 {
     match p {
         Phase::Free => 0,
@@ -143,7 +143,7 @@ pub fn phase_first(p: Phase) -> u8
 }
 
 pub fn phase_second(p: Phase) -> u8
-    ensures { result ≡ phaseSecond p }
+    ensures { result ≡ phase_second p }
 {
     match p {
         Phase::Free => 0,

@@ -1,13 +1,13 @@
 // What C calls of the receiving end of the retry, its state in 4 lent bytes.
 ghost use Rattle.std.specs.Prelude.{◌≡◌};
-ghost use Rattle.host_calls.specs.ReceiverCalls.{beginsReceiver, ArrivesDamaged, arrivesDamaged};
+ghost use Rattle.host_calls.specs.ReceiverCalls.{begins_receiver, ArrivesDamaged, arrives_damaged};
 
 use host_marks::mark_number;
 
 // A fresh receiver with S.
 #[unsafe(no_mangle)]
 pub extern "C" fn buzz_receiver_fresh(size: u32, receiver: &mut [u8; 4]) -> u32
-    ensures { let after = beginsReceiver size receiver.old in (result ≡ after.refusal) × (receiver.new ≡ after.lent) }
+    ensures { let after = begins_receiver size receiver.old in (result ≡ after.refusal) × (receiver.new ≡ after.lent) }
 {
     let made = retry_receiver::fresh_receiver(size);
     if made.refusal != 0 {
@@ -26,7 +26,7 @@ pub extern "C" fn buzz_receiver_damaged_arrival(
     reply: &mut u32,
 ) -> u32
     ensures { (let old : ArrivesDamaged = record { receiver = receiver.entry.now; nack = nack.old; reply = reply.old } in
-        let after = arrivesDamaged old in
+        let after = arrives_damaged old in
         (result ≡ after.refusal) × (receiver.exit.now ≡ after.lent.receiver) × (nack.new ≡ after.lent.nack) × (reply.new ≡ after.lent.reply)) }
 {
     let given = host_receiver_bytes::receiver_in(*receiver);

@@ -1,7 +1,7 @@
 // The receiver's state in lent bytes: stored and loaded.
 ghost use Rattle.std.specs.Prelude.{◌≡◌};
 ghost use Rattle.host_retry_rules.specs.SenderBytes.{two};
-ghost use Rattle.host_retry_rules.specs.ReceiverBytes.{receiverIn, receiverBytes};
+ghost use Rattle.host_retry_rules.specs.ReceiverBytes.{receiver_in, receiver_bytes};
 
 use retry_rules::Receiver;
 
@@ -13,7 +13,7 @@ fn two(high: u8, low: u8) -> u16
 
 // The receiver that bytes stand for.
 pub fn receiver_in(b: [u8; 4]) -> Receiver
-    ensures { result ≡ receiverIn b }
+    ensures { result ≡ receiver_in b }
 {
     let size = two(b[2], b[3]);
     Receiver {
@@ -25,7 +25,7 @@ pub fn receiver_in(b: [u8; 4]) -> Receiver
 
 // A receiver as its bytes.
 pub fn receiver_bytes(r: Receiver) -> [u8; 4]
-    ensures { result ≡ receiverBytes r }
+    ensures { result ≡ receiver_bytes r }
 {
     let size = r.size;
     [

@@ -1,6 +1,6 @@
 // What C calls of the sending end of the retry when a reply or a column of time comes, its state in 38 lent bytes.
 ghost use Rattle.std.specs.Prelude.{◌≡◌};
-ghost use Rattle.host_calls.specs.SenderCalls.{hears, hearsDamaged, ticks};
+ghost use Rattle.host_calls.specs.SenderCalls.{hears, hears_damaged, ticks};
 
 use host_marks::mark_number;
 
@@ -22,7 +22,7 @@ pub extern "C" fn buzz_sender_reply(sender: &mut [u8; 38], nack: u32, number: u3
 // A damaged reply, which is ignored.
 #[unsafe(no_mangle)]
 pub extern "C" fn buzz_sender_damaged_reply(sender: &mut [u8; 38]) -> u32
-    ensures { let after = hearsDamaged sender.old in (result ≡ after.refusal) × (sender.new ≡ after.lent) }
+    ensures { let after = hears_damaged sender.old in (result ≡ after.refusal) × (sender.new ≡ after.lent) }
 {
     let given = host_retry::sender_in(*sender);
     let ignored = retry_replies::damaged_reply(given);

@@ -1,6 +1,6 @@
 // The sender's state loaded from lent bytes.
 ghost use Rattle.std.specs.Prelude.{◌≡◌};
-ghost use Rattle.host_retry_rules.specs.SenderBytes.{two, marksOf, countersIn, lengthsIn, channelsIn, senderIn};
+ghost use Rattle.host_retry_rules.specs.SenderBytes.{two, marks_of, counters_in, lengths_in, channels_in, sender_in};
 
 use retry_rules::{Counters, Sender, Slots};
 
@@ -11,7 +11,7 @@ fn two(high: u8, low: u8) -> u16
 }
 
 fn marks_of(mask: u8) -> [bool; 8]
-    ensures { result ≡ marksOf mask }
+    ensures { result ≡ marks_of mask }
 {
     let m1 = mask / 2;
     let m2 = m1 / 2;
@@ -33,7 +33,7 @@ fn marks_of(mask: u8) -> [bool; 8]
 }
 
 fn counters_in(b: [u8; 38]) -> Counters
-    ensures { result ≡ countersIn b }
+    ensures { result ≡ counters_in b }
 {
     let timer = two(b[5], b[6]);
     let columns = two(b[8], b[9]);
@@ -53,7 +53,7 @@ fn counters_in(b: [u8; 38]) -> Counters
 }
 
 fn lengths_in(b: [u8; 38]) -> [u16; 8]
-    ensures { result ≡ lengthsIn b }
+    ensures { result ≡ lengths_in b }
 {
     [
         two(b[13], b[14]),
@@ -68,14 +68,14 @@ fn lengths_in(b: [u8; 38]) -> [u16; 8]
 }
 
 fn channels_in(b: [u8; 38]) -> [u8; 8]
-    ensures { result ≡ channelsIn b }
+    ensures { result ≡ channels_in b }
 {
     [b[29], b[30], b[31], b[32], b[33], b[34], b[35], b[36]]
 }
 
 // The sender that bytes stand for.
 pub fn sender_in(b: [u8; 38]) -> Sender
-    ensures { result ≡ senderIn b }
+    ensures { result ≡ sender_in b }
 {
     let counters = counters_in(b);
     let lengths = lengths_in(b);

@@ -1,12 +1,12 @@
 // The sender's state as bytes, to be stored in lent ones.
 ghost use Rattle.std.specs.Prelude.{◌≡◌, ◌≤◌, ◌/◌};
-ghost use Rattle.host_rules.specs.Numbers.{markNumber};
-ghost use Rattle.host_retry_rules.specs.SenderBytes.{mask_of, senderBytes};
+ghost use Rattle.host_rules.specs.Numbers.{mark_number};
+ghost use Rattle.host_retry_rules.specs.SenderBytes.{mask_of, sender_bytes};
 
 use retry_rules::Sender;
 
 fn mark_number(mark: bool) -> u8
-    ensures { (result ≡ markNumber mark) × (result ≤ 1) }
+    ensures { (result ≡ mark_number mark) × (result ≤ 1) }
 {
     if mark { 1 } else { 0 }
 }
@@ -34,7 +34,7 @@ fn high(n: u16) -> u8
 
 // A sender as its bytes.
 pub fn sender_bytes(s: Sender) -> [u8; 38]
-    ensures { result ≡ senderBytes s }
+    ensures { result ≡ sender_bytes s }
 {
     let c = s.counters;
     let slots = s.slots;

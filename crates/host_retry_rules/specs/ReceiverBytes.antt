@@ -3,8 +3,8 @@ use Rattle.std.specs.Prelude.{ℕ, ◌/◌, ◌%◌, List, [], ◌∷◌}
 use Rattle.retry_rules.specs.declared.Receiver.{Receiver}
 use Rattle.host_retry_rules.specs.SenderBytes.{two, at}
 
-unfoldable pub receiverBytes : Receiver → List ℕ
-receiverBytes r = r.expected ∷ r.received ∷ r.size / 256 ∷ r.size % 256 ∷ []
+unfoldable pub receiver_bytes : Receiver → List ℕ
+receiver_bytes r = r.expected ∷ r.received ∷ r.size / 256 ∷ r.size % 256 ∷ []
 
-unfoldable pub receiverIn : List ℕ → Receiver
-receiverIn b = record { expected = at b 0; received = at b 1; size = two (at b 2) (at b 3) }
+unfoldable pub receiver_in : List ℕ → Receiver
+receiver_in b = record { expected = at b 0; received = at b 1; size = two (at b 2) (at b 3) }

@@ -8,23 +8,23 @@ use Rattle.host_rules.specs.Numbers.{stands, called}
 
 module _ {A : Type 0} (n : ℕ) (old new : A) where
   -- a refusal leaves it as it stood
-  pub stands-old : (n ≡ 0 → ⊥) → stands n old new ≡ old
+  pub stands_old : (n ≡ 0 → ⊥) → stands n old new ≡ old
   unfolding stands
-  stands-old h = ap (λ (b : Bool). cond b new old) (ne_eqb n 0 h)
+  stands_old h = ap (λ (b : Bool). cond b new old) (ne_eqb n 0 h)
 
-  pub stands-new : n ≡ 0 → stands n old new ≡ new
+  pub stands_new : n ≡ 0 → stands n old new ≡ new
   unfolding stands
-  stands-new h = ap (λ (b : Bool). cond b new old) (eq-eqb n 0 h)
+  stands_new h = ap (λ (b : Bool). cond b new old) (eq-eqb n 0 h)
 
   -- THE LAW of refusals, once for all calls: everything lent is what stood there
-  pub lent-stands : ((called n old new).refusal ≡ 0 → ⊥) → (called n old new).lent ≡ old
+  pub lent_stands : ((called n old new).refusal ≡ 0 → ⊥) → (called n old new).lent ≡ old
   unfolding called
-  lent-stands h = stands-old h
+  lent_stands h = stands_old h
 
-  pub refused-called : (n ≡ 0 → ⊥) → called n old new ≡ record { refusal = n; lent = old }
+  pub refused_called : (n ≡ 0 → ⊥) → called n old new ≡ record { refusal = n; lent = old }
   unfolding called
-  refused-called h = ap (λ (l : A). record { refusal = n; lent = l }) (stands-old h)
+  refused_called h = ap (λ (l : A). record { refusal = n; lent = l }) (stands_old h)
 
-  pub done-called : n ≡ 0 → called n old new ≡ record { refusal = n; lent = new }
+  pub done_called : n ≡ 0 → called n old new ≡ record { refusal = n; lent = new }
   unfolding called
-  done-called h = ap (λ (l : A). record { refusal = n; lent = l }) (stands-new h)
+  done_called h = ap (λ (l : A). record { refusal = n; lent = l }) (stands_new h)

@@ -13,72 +13,72 @@ use Rattle.packet_rules.specs.declared.Due.TheVariants.{Channel, Opening, Closin
 use Rattle.packet_rules.specs.declared.Phase.{Phase}
 use Rattle.packet_rules.specs.declared.Phase.TheVariants.{Free, Next, Idles, Dropping}
 use Rattle.packet_rules.specs.declared.Reader.{Reader}
-use Rattle.host_rules.specs.ReaderBytes.{two, packetTag, packetChannel, packetRegister, packetOf, packetFits, priorityTag, priorityOpening, priorityCount, priorityRegister, priorityOf, priorityFits, phaseTag, phaseFirst, phaseSecond, phaseOf, phaseFits, readerBytes, readerIn, isReader}
+use Rattle.host_rules.specs.ReaderBytes.{two, packet_tag, packet_channel, packet_register, packet_of, packet_fits, priority_tag, priority_opening, priority_count, priority_register, priority_of, priority_fits, phase_tag, phase_first, phase_second, phase_of, phase_fits, reader_bytes, reader_in, is_reader}
 
 halves : (n : ℕ) → two (n / 256) (n % 256) ≡ n
 halves n = omega arith
 
-packet-again : (p : DataPacket) → packetOf (packetTag p) (packetChannel p) (packetRegister p) ≡ p
-unfolding packetOf
-packet-again NoData = refl
-packet-again (InData h true c) = refl
-packet-again (InData h false c) = refl
+packet_again : (p : DataPacket) → packet_of (packet_tag p) (packet_channel p) (packet_register p) ≡ p
+unfolding packet_of
+packet_again NoData = refl
+packet_again (InData h true c) = refl
+packet_again (InData h false c) = refl
 
-priority-again : (p : PriorityPacket) → priorityOf (priorityTag p) (priorityOpening p) (priorityCount p) (priorityRegister p) ≡ p
-unfolding priorityOf
-priority-again NoPriority = refl
-priority-again (InPriority o n c) = refl
+priority_again : (p : PriorityPacket) → priority_of (priority_tag p) (priority_opening p) (priority_count p) (priority_register p) ≡ p
+unfolding priority_of
+priority_again NoPriority = refl
+priority_again (InPriority o n c) = refl
 
-phase-again : (p : Phase) → phaseOf (phaseTag p) (phaseFirst p) (phaseSecond p) ≡ p
-unfolding phaseOf
-phase-again Free = refl
-phase-again Dropping = refl
-phase-again (Idles n) = refl
-phase-again (Next Channel) = refl
-phase-again (Next Opening) = refl
-phase-again (Next (Closing true)) = refl
-phase-again (Next (Closing false)) = refl
-phase-again (Next (FirstCrc true)) = refl
-phase-again (Next (FirstCrc false)) = refl
-phase-again (Next (SecondCrc true a)) = refl
-phase-again (Next (SecondCrc false a)) = refl
-phase-again (Next LmpType) = refl
-phase-again (Next (LmpNumber t)) = refl
-phase-again (Next (LmpCheck t n)) = refl
+phase_again : (p : Phase) → phase_of (phase_tag p) (phase_first p) (phase_second p) ≡ p
+unfolding phase_of
+phase_again Free = refl
+phase_again Dropping = refl
+phase_again (Idles n) = refl
+phase_again (Next Channel) = refl
+phase_again (Next Opening) = refl
+phase_again (Next (Closing true)) = refl
+phase_again (Next (Closing false)) = refl
+phase_again (Next (FirstCrc true)) = refl
+phase_again (Next (FirstCrc false)) = refl
+phase_again (Next (SecondCrc true a)) = refl
+phase_again (Next (SecondCrc false a)) = refl
+phase_again (Next LmpType) = refl
+phase_again (Next (LmpNumber t)) = refl
+phase_again (Next (LmpCheck t n)) = refl
 
 -- what is stored is loaded again
-pub reader-again : (r : Reader) → readerIn (readerBytes r) ≡ r
-unfolding readerIn readerBytes
-reader-again r =
+pub reader_again : (r : Reader) → reader_in (reader_bytes r) ≡ r
+unfolding reader_in reader_bytes
+reader_again r =
     simp (
       halves r.size,
-      halves (packetRegister r.packet),
-      halves (priorityCount r.priority),
-      halves (priorityRegister r.priority),
-      packet-again r.packet,
-      priority-again r.priority,
-      phase-again r.phase,
+      halves (packet_register r.packet),
+      halves (priority_count r.priority),
+      halves (priority_register r.priority),
+      packet_again r.packet,
+      priority_again r.priority,
+      phase_again r.phase,
     )
 
 -- and is an encoding
-pub reader-encodes : (r : Reader) → isReader (readerBytes r) ≡ true
-unfolding isReader packetFits priorityFits phaseFits readerBytes
-reader-encodes r =
+pub reader_encodes : (r : Reader) → is_reader (reader_bytes r) ≡ true
+unfolding is_reader packet_fits priority_fits phase_fits reader_bytes
+reader_encodes r =
     simp (
-      halves (packetRegister r.packet),
-      halves (priorityCount r.priority),
-      halves (priorityRegister r.priority),
-      packet-again r.packet,
-      priority-again r.priority,
-      phase-again r.phase,
-      eq-eqb (packetTag r.packet) _ refl,
-      eq-eqb (packetChannel r.packet) _ refl,
-      eq-eqb (packetRegister r.packet) _ refl,
-      eq-eqb (priorityTag r.priority) _ refl,
-      eq-eqb (priorityOpening r.priority) _ refl,
-      eq-eqb (priorityCount r.priority) _ refl,
-      eq-eqb (priorityRegister r.priority) _ refl,
-      eq-eqb (phaseTag r.phase) _ refl,
-      eq-eqb (phaseFirst r.phase) _ refl,
-      eq-eqb (phaseSecond r.phase) _ refl,
+      halves (packet_register r.packet),
+      halves (priority_count r.priority),
+      halves (priority_register r.priority),
+      packet_again r.packet,
+      priority_again r.priority,
+      phase_again r.phase,
+      eq-eqb (packet_tag r.packet) _ refl,
+      eq-eqb (packet_channel r.packet) _ refl,
+      eq-eqb (packet_register r.packet) _ refl,
+      eq-eqb (priority_tag r.priority) _ refl,
+      eq-eqb (priority_opening r.priority) _ refl,
+      eq-eqb (priority_count r.priority) _ refl,
+      eq-eqb (priority_register r.priority) _ refl,
+      eq-eqb (phase_tag r.phase) _ refl,
+      eq-eqb (phase_first r.phase) _ refl,
+      eq-eqb (phase_second r.phase) _ refl,
     )

@@ -7,8 +7,8 @@ abbrev pub mark_of : ℕ → Bool
 mark_of n = not (eqb n 0)
 
 -- and a mark that is handed out: 0 or 1
-abbrev pub markNumber : Bool → ℕ
-markNumber b = cond b 1 0
+abbrev pub mark_number : Bool → ℕ
+mark_number b = cond b 1 0
 
 -- what a lent thing holds after a call with this refusal's number: what the call makes of it, or the thing as it stood
 unfoldable pub stands : {A : Type 0} → ℕ → A → A → A
@@ -24,6 +24,6 @@ unfoldable pub called : {A : Type 0} → ℕ → A → A → Called A
 called n old new = record { refusal = n; lent = stands n old new }
 
 -- what a lent number holds after an answer that may bring one
-abbrev pub orOld : {A : Type 0} → Option A → A → A
-orOld none old = old
-orOld (some new) old = new
+abbrev pub or_old : {A : Type 0} → Option A → A → A
+or_old none old = old
+or_old (some new) old = new

@@ -12,156 +12,156 @@ use Rattle.packet_rules.specs.declared.Due.TheVariants.{Channel, Opening, Closin
 use Rattle.packet_rules.specs.declared.Phase.{Phase}
 use Rattle.packet_rules.specs.declared.Phase.TheVariants.{Free, Next, Idles, Dropping}
 use Rattle.packet_rules.specs.declared.Reader.{Reader}
-use Rattle.host_rules.specs.Numbers.{mark_of, markNumber}
+use Rattle.host_rules.specs.Numbers.{mark_of, mark_number}
 
 abbrev pub two : ℕ → ℕ → ℕ
 two high low = high * 256 + low
 
 -- ---- the data packet: 0 none, 1 open and no byte yet, 2 open with a byte
 
-abbrev pub packetTag : DataPacket → ℕ
-packetTag NoData = 0
-packetTag (InData h begun c) = cond begun 2 1
+abbrev pub packet_tag : DataPacket → ℕ
+packet_tag NoData = 0
+packet_tag (InData h begun c) = cond begun 2 1
 
-abbrev pub packetChannel : DataPacket → ℕ
-packetChannel NoData = 0
-packetChannel (InData h begun c) = h
+abbrev pub packet_channel : DataPacket → ℕ
+packet_channel NoData = 0
+packet_channel (InData h begun c) = h
 
-abbrev pub packetRegister : DataPacket → ℕ
-packetRegister NoData = 0
-packetRegister (InData h begun c) = c
+abbrev pub packet_register : DataPacket → ℕ
+packet_register NoData = 0
+packet_register (InData h begun c) = c
 
-unfoldable pub packetOf : ℕ → ℕ → ℕ → DataPacket
-packetOf tag channel register =
+unfoldable pub packet_of : ℕ → ℕ → ℕ → DataPacket
+packet_of tag channel register =
     cond (eqb tag 1) (InData channel false register) (cond (eqb tag 2) (InData channel true register) NoData)
 
 -- ---- the priority packet: 0 none, 1 open
 
-abbrev pub priorityTag : PriorityPacket → ℕ
-priorityTag NoPriority = 0
-priorityTag (InPriority o n c) = 1
+abbrev pub priority_tag : PriorityPacket → ℕ
+priority_tag NoPriority = 0
+priority_tag (InPriority o n c) = 1
 
-abbrev pub priorityOpening : PriorityPacket → ℕ
-priorityOpening NoPriority = 0
-priorityOpening (InPriority o n c) = o
+abbrev pub priority_opening : PriorityPacket → ℕ
+priority_opening NoPriority = 0
+priority_opening (InPriority o n c) = o
 
-abbrev pub priorityCount : PriorityPacket → ℕ
-priorityCount NoPriority = 0
-priorityCount (InPriority o n c) = n
+abbrev pub priority_count : PriorityPacket → ℕ
+priority_count NoPriority = 0
+priority_count (InPriority o n c) = n
 
-abbrev pub priorityRegister : PriorityPacket → ℕ
-priorityRegister NoPriority = 0
-priorityRegister (InPriority o n c) = c
+abbrev pub priority_register : PriorityPacket → ℕ
+priority_register NoPriority = 0
+priority_register (InPriority o n c) = c
 
-unfoldable pub priorityOf : ℕ → ℕ → ℕ → ℕ → PriorityPacket
-priorityOf tag opening count register = cond (eqb tag 1) (InPriority opening count register) NoPriority
+unfoldable pub priority_of : ℕ → ℕ → ℕ → ℕ → PriorityPacket
+priority_of tag opening count register = cond (eqb tag 1) (InPriority opening count register) NoPriority
 
 -- ---- the phase: 0 free, 1 dropping, 2 so many IDL due, from 3 on the byte that is due
 
-abbrev pub dueTag : Due → ℕ
-dueTag Channel = 3
-dueTag Opening = 4
-dueTag (Closing bad) = 5
-dueTag (FirstCrc bad) = 6
-dueTag (SecondCrc bad a) = 7
-dueTag LmpType = 8
-dueTag (LmpNumber t) = 9
-dueTag (LmpCheck t n) = 10
+abbrev pub due_tag : Due → ℕ
+due_tag Channel = 3
+due_tag Opening = 4
+due_tag (Closing bad) = 5
+due_tag (FirstCrc bad) = 6
+due_tag (SecondCrc bad a) = 7
+due_tag LmpType = 8
+due_tag (LmpNumber t) = 9
+due_tag (LmpCheck t n) = 10
 
-abbrev pub dueFirst : Due → ℕ
-dueFirst Channel = 0
-dueFirst Opening = 0
-dueFirst (Closing bad) = markNumber bad
-dueFirst (FirstCrc bad) = markNumber bad
-dueFirst (SecondCrc bad a) = markNumber bad
-dueFirst LmpType = 0
-dueFirst (LmpNumber t) = t
-dueFirst (LmpCheck t n) = t
+abbrev pub due_first : Due → ℕ
+due_first Channel = 0
+due_first Opening = 0
+due_first (Closing bad) = mark_number bad
+due_first (FirstCrc bad) = mark_number bad
+due_first (SecondCrc bad a) = mark_number bad
+due_first LmpType = 0
+due_first (LmpNumber t) = t
+due_first (LmpCheck t n) = t
 
-abbrev pub dueSecond : Due → ℕ
-dueSecond Channel = 0
-dueSecond Opening = 0
-dueSecond (Closing bad) = 0
-dueSecond (FirstCrc bad) = 0
-dueSecond (SecondCrc bad a) = a
-dueSecond LmpType = 0
-dueSecond (LmpNumber t) = 0
-dueSecond (LmpCheck t n) = n
+abbrev pub due_second : Due → ℕ
+due_second Channel = 0
+due_second Opening = 0
+due_second (Closing bad) = 0
+due_second (FirstCrc bad) = 0
+due_second (SecondCrc bad a) = a
+due_second LmpType = 0
+due_second (LmpNumber t) = 0
+due_second (LmpCheck t n) = n
 
-abbrev pub phaseTag : Phase → ℕ
-phaseTag Free = 0
-phaseTag (Next due) = dueTag due
-phaseTag (Idles n) = 2
-phaseTag Dropping = 1
+abbrev pub phase_tag : Phase → ℕ
+phase_tag Free = 0
+phase_tag (Next due) = due_tag due
+phase_tag (Idles n) = 2
+phase_tag Dropping = 1
 
-abbrev pub phaseFirst : Phase → ℕ
-phaseFirst Free = 0
-phaseFirst (Next due) = dueFirst due
-phaseFirst (Idles n) = n
-phaseFirst Dropping = 0
+abbrev pub phase_first : Phase → ℕ
+phase_first Free = 0
+phase_first (Next due) = due_first due
+phase_first (Idles n) = n
+phase_first Dropping = 0
 
-abbrev pub phaseSecond : Phase → ℕ
-phaseSecond Free = 0
-phaseSecond (Next due) = dueSecond due
-phaseSecond (Idles n) = 0
-phaseSecond Dropping = 0
+abbrev pub phase_second : Phase → ℕ
+phase_second Free = 0
+phase_second (Next due) = due_second due
+phase_second (Idles n) = 0
+phase_second Dropping = 0
 
-abbrev pub lmpOf : ℕ → ℕ → ℕ → Phase
-lmpOf tag a b =
+abbrev pub lmp_of : ℕ → ℕ → ℕ → Phase
+lmp_of tag a b =
     cond (eqb tag 8) (Next LmpType) (cond (eqb tag 9) (Next (LmpNumber a)) (cond (eqb tag 10) (Next (LmpCheck a b)) Free))
 
-abbrev pub closingOf : ℕ → ℕ → ℕ → Phase
-closingOf tag a b =
+abbrev pub closing_of : ℕ → ℕ → ℕ → Phase
+closing_of tag a b =
     cond (eqb tag 5) (Next (Closing (mark_of a)))
-    (cond (eqb tag 6) (Next (FirstCrc (mark_of a))) (cond (eqb tag 7) (Next (SecondCrc (mark_of a) b)) (lmpOf tag a b)))
+    (cond (eqb tag 6) (Next (FirstCrc (mark_of a))) (cond (eqb tag 7) (Next (SecondCrc (mark_of a) b)) (lmp_of tag a b)))
 
-unfoldable pub phaseOf : ℕ → ℕ → ℕ → Phase
-phaseOf tag a b =
+unfoldable pub phase_of : ℕ → ℕ → ℕ → Phase
+phase_of tag a b =
     cond (eqb tag 1) Dropping
-    (cond (eqb tag 2) (Idles a) (cond (eqb tag 3) (Next Channel) (cond (eqb tag 4) (Next Opening) (closingOf tag a b))))
+    (cond (eqb tag 2) (Idles a) (cond (eqb tag 3) (Next Channel) (cond (eqb tag 4) (Next Opening) (closing_of tag a b))))
 
 -- ---- the state
 
-unfoldable pub readerBytes : Reader → List ℕ
-readerBytes r =
+unfoldable pub reader_bytes : Reader → List ℕ
+reader_bytes r =
     r.size / 256 ∷ r.size % 256
-    ∷ packetTag r.packet ∷ packetChannel r.packet ∷ packetRegister r.packet / 256 ∷ packetRegister r.packet % 256
-    ∷ priorityTag r.priority ∷ priorityOpening r.priority ∷ priorityCount r.priority / 256 ∷ priorityCount r.priority % 256
-    ∷ priorityRegister r.priority / 256 ∷ priorityRegister r.priority % 256
-    ∷ phaseTag r.phase ∷ phaseFirst r.phase ∷ phaseSecond r.phase ∷ []
+    ∷ packet_tag r.packet ∷ packet_channel r.packet ∷ packet_register r.packet / 256 ∷ packet_register r.packet % 256
+    ∷ priority_tag r.priority ∷ priority_opening r.priority ∷ priority_count r.priority / 256 ∷ priority_count r.priority % 256
+    ∷ priority_register r.priority / 256 ∷ priority_register r.priority % 256
+    ∷ phase_tag r.phase ∷ phase_first r.phase ∷ phase_second r.phase ∷ []
 
 abbrev pub byte_at : List ℕ → ℕ → ℕ
 byte_at b i = get_or b i 0
 
-abbrev pub packetIn : List ℕ → DataPacket
-packetIn b = packetOf (byte_at b 2) (byte_at b 3) (two (byte_at b 4) (byte_at b 5))
+abbrev pub packet_in : List ℕ → DataPacket
+packet_in b = packet_of (byte_at b 2) (byte_at b 3) (two (byte_at b 4) (byte_at b 5))
 
-abbrev pub priorityIn : List ℕ → PriorityPacket
-priorityIn b = priorityOf (byte_at b 6) (byte_at b 7) (two (byte_at b 8) (byte_at b 9)) (two (byte_at b 10) (byte_at b 11))
+abbrev pub priority_in : List ℕ → PriorityPacket
+priority_in b = priority_of (byte_at b 6) (byte_at b 7) (two (byte_at b 8) (byte_at b 9)) (two (byte_at b 10) (byte_at b 11))
 
-abbrev pub phaseIn : List ℕ → Phase
-phaseIn b = phaseOf (byte_at b 12) (byte_at b 13) (byte_at b 14)
+abbrev pub phase_in : List ℕ → Phase
+phase_in b = phase_of (byte_at b 12) (byte_at b 13) (byte_at b 14)
 
-unfoldable pub readerIn : List ℕ → Reader
-readerIn b =
-    record { size = two (byte_at b 0) (byte_at b 1); packet = packetIn b; priority = priorityIn b; phase = phaseIn b }
+unfoldable pub reader_in : List ℕ → Reader
+reader_in b =
+    record { size = two (byte_at b 0) (byte_at b 1); packet = packet_in b; priority = priority_in b; phase = phase_in b }
 
 -- ---- bytes that are the encoding of what they stand for: a tag of the list above, and zero where it has no use for a byte
 
-unfoldable pub packetFits : DataPacket → ℕ → ℕ → ℕ → Bool
-packetFits p tag channel register =
-    eqb (packetTag p) tag && (eqb (packetChannel p) channel && eqb (packetRegister p) register)
+unfoldable pub packet_fits : DataPacket → ℕ → ℕ → ℕ → Bool
+packet_fits p tag channel register =
+    eqb (packet_tag p) tag && (eqb (packet_channel p) channel && eqb (packet_register p) register)
 
-unfoldable pub priorityFits : PriorityPacket → ℕ → ℕ → ℕ → ℕ → Bool
-priorityFits p tag opening count register =
-    eqb (priorityTag p) tag
-    && (eqb (priorityOpening p) opening && (eqb (priorityCount p) count && eqb (priorityRegister p) register))
+unfoldable pub priority_fits : PriorityPacket → ℕ → ℕ → ℕ → ℕ → Bool
+priority_fits p tag opening count register =
+    eqb (priority_tag p) tag
+    && (eqb (priority_opening p) opening && (eqb (priority_count p) count && eqb (priority_register p) register))
 
-unfoldable pub phaseFits : Phase → ℕ → ℕ → ℕ → Bool
-phaseFits p tag a b = eqb (phaseTag p) tag && (eqb (phaseFirst p) a && eqb (phaseSecond p) b)
+unfoldable pub phase_fits : Phase → ℕ → ℕ → ℕ → Bool
+phase_fits p tag a b = eqb (phase_tag p) tag && (eqb (phase_first p) a && eqb (phase_second p) b)
 
-unfoldable pub isReader : List ℕ → Bool
-isReader b =
-    packetFits (packetIn b) (byte_at b 2) (byte_at b 3) (two (byte_at b 4) (byte_at b 5))
-    && (priorityFits (priorityIn b) (byte_at b 6) (byte_at b 7) (two (byte_at b 8) (byte_at b 9)) (two (byte_at b 10) (byte_at b 11))
-    && phaseFits (phaseIn b) (byte_at b 12) (byte_at b 13) (byte_at b 14))
+unfoldable pub is_reader : List ℕ → Bool
+is_reader b =
+    packet_fits (packet_in b) (byte_at b 2) (byte_at b 3) (two (byte_at b 4) (byte_at b 5))
+    && (priority_fits (priority_in b) (byte_at b 6) (byte_at b 7) (two (byte_at b 8) (byte_at b 9)) (two (byte_at b 10) (byte_at b 11))
+    && phase_fits (phase_in b) (byte_at b 12) (byte_at b 13) (byte_at b 14))

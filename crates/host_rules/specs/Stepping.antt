@@ -2,15 +2,15 @@
 use Rattle.std.specs.Prelude.{ℕ, cond, not, ◌&&◌, List, [], ◌∷◌, eqb, ltb, negsuc}
 use Rattle.std.proofs.Math.Option.{Option, none, some}
 use Rattle.refusal.specs.Order.{Check, check, outcome}
-use Rattle.character_rules.specs.Answers.{Reading, clean, wrongDisparity, invalid}
+use Rattle.character_rules.specs.Answers.{Reading, clean, wrong_disparity, invalid}
 use Rattle.packet_rules.specs.Answers.{Said, Answer}
 use Rattle.packet_rules.specs.declared.Reader.{Reader}
-use Rattle.packet_rules.specs.Step.{refusedStep, step_of}
+use Rattle.packet_rules.specs.Step.{refused_step, step_of}
 use Rattle.host_rules.specs.declared.Told.{Told}
-use Rattle.events_rules.specs.Numbers.{eventIn, valueIn, segmentIn}
-use Rattle.host_rules.specs.Numbers.{orOld}
+use Rattle.events_rules.specs.Numbers.{event_in, value_in, segment_in}
+use Rattle.host_rules.specs.Numbers.{or_old}
 use Rattle.host_rules.specs.Characters.{symbol_of}
-use Rattle.host_rules.specs.ReaderBytes.{readerBytes, readerIn, isReader}
+use Rattle.host_rules.specs.ReaderBytes.{reader_bytes, reader_in, is_reader}
 
 -- ---- a step
 
@@ -19,28 +19,28 @@ use Rattle.host_rules.specs.ReaderBytes.{readerBytes, readerIn, isReader}
 unfoldable pub result_of : ℕ → ℕ → ℕ → Reading
 result_of violation byte control =
     cond (eqb violation 0) (clean (symbol_of byte control) (negsuc 0))
-    (cond (eqb violation 2) (wrongDisparity (symbol_of byte control) (negsuc 0)) (invalid (negsuc 0)))
+    (cond (eqb violation 2) (wrong_disparity (symbol_of byte control) (negsuc 0)) (invalid (negsuc 0)))
 
 -- refusal 1: bytes that encode no state, a violation over 2, and a symbol's byte over 255
-unfoldable pub numberChecks : List ℕ → ℕ → ℕ → List Check
-numberChecks bytes violation byte =
-    check 1 (not (isReader bytes)) ∷ check 1 (ltb 2 violation) ∷ check 1 (not (eqb violation 1) && ltb 255 byte) ∷ []
+unfoldable pub number_checks : List ℕ → ℕ → ℕ → List Check
+number_checks bytes violation byte =
+    check 1 (not (is_reader bytes)) ∷ check 1 (ltb 2 violation) ∷ check 1 (not (eqb violation 1) && ltb 255 byte) ∷ []
 
-unfoldable pub stepNumbers : List ℕ → ℕ → ℕ → ℕ → Answer
-stepNumbers bytes violation byte control =
-    outcome (numberChecks bytes violation byte) (refusedStep (readerIn bytes))
-    (step_of (readerIn bytes) (result_of violation byte control))
+unfoldable pub step_numbers : List ℕ → ℕ → ℕ → ℕ → Answer
+step_numbers bytes violation byte control =
+    outcome (number_checks bytes violation byte) (refused_step (reader_in bytes))
+    (step_of (reader_in bytes) (result_of violation byte control))
 
 -- ---- what it says, in numbers
 
-abbrev pub numberTold : ℕ → ℕ → ℕ → Told
-numberTold event value number = record { refusal = 0; event = event; value = value; number = number }
+abbrev pub number_told : ℕ → ℕ → ℕ → Told
+number_told event value number = record { refusal = 0; event = event; value = value; number = number }
 
-unfoldable pub toldOf : Said → Told
-toldOf s = record { refusal = orOld s.refusal 0; event = eventIn s; value = valueIn s; number = segmentIn s }
+unfoldable pub told_of : Said → Told
+told_of s = record { refusal = or_old s.refusal 0; event = event_in s; value = value_in s; number = segment_in s }
 
 -- ---- a fresh reader
 
-abbrev pub bytesMade : Option Reader → Option (List ℕ)
-bytesMade none = none
-bytesMade (some r) = some (readerBytes r)
+abbrev pub bytes_made : Option Reader → Option (List ℕ)
+bytes_made none = none
+bytes_made (some r) = some (reader_bytes r)

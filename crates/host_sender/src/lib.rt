@@ -1,11 +1,11 @@
 // What C calls to begin the sending end of the retry, its state in 38 lent bytes.
 ghost use Rattle.std.specs.Prelude.{◌≡◌};
-ghost use Rattle.host_calls.specs.SenderCalls.{beginsSender, resets};
+ghost use Rattle.host_calls.specs.SenderCalls.{begins_sender, resets};
 
 // A fresh sender with T and S.
 #[unsafe(no_mangle)]
 pub extern "C" fn buzz_sender_fresh(columns: u32, size: u32, sender: &mut [u8; 38]) -> u32
-    ensures { let after = beginsSender columns size sender.old in (result ≡ after.refusal) × (sender.new ≡ after.lent) }
+    ensures { let after = begins_sender columns size sender.old in (result ≡ after.refusal) × (sender.new ≡ after.lent) }
 {
     let made = retry_beginning::fresh_sender(columns, size);
     if made.refusal != 0 {

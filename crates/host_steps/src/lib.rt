@@ -1,10 +1,10 @@
 // One step of the packet reader, its state in 15 bytes, and what it says in numbers.
 ghost use Rattle.std.specs.Prelude.{◌≡◌};
-ghost use Rattle.character_rules.specs.Answers.{readingSays};
-ghost use Rattle.packet_rules.specs.Answers.{eventSays, stepSays};
-ghost use Rattle.packet_rules.specs.Step.{refusedStep};
-ghost use Rattle.host_rules.specs.Numbers.{markNumber};
-ghost use Rattle.host_rules.specs.Stepping.{result_of, stepNumbers, numberTold, toldOf};
+ghost use Rattle.character_rules.specs.Answers.{reading_says};
+ghost use Rattle.packet_rules.specs.Answers.{event_says, step_says};
+ghost use Rattle.packet_rules.specs.Step.{refused_step};
+ghost use Rattle.host_rules.specs.Numbers.{mark_number};
+ghost use Rattle.host_rules.specs.Stepping.{result_of, step_numbers, number_told, told_of};
 
 use character_rules::Decoded;
 use host_rules::Told;
@@ -13,7 +13,7 @@ use symbol::Symbol;
 
 // A character result in numbers: 0 clean, 2 wrong disparity, else invalid.
 fn result_of(violation: u32, byte: u8, control: u32) -> Decoded
-    ensures { readingSays result ≡ result_of violation byte control }
+    ensures { reading_says result ≡ result_of violation byte control }
 {
     let symbol = Symbol {
         byte,
@@ -29,7 +29,7 @@ fn result_of(violation: u32, byte: u8, control: u32) -> Decoded
 }
 
 fn refused(r: Reader) -> Step
-    ensures { stepSays result ≡ refusedStep r 1 }
+    ensures { step_says result ≡ refused_step r 1 }
 {
     Step {
         event: Event::Refused(refusal::OUT_OF_RANGE),
@@ -39,7 +39,7 @@ fn refused(r: Reader) -> Step
 
 // One step over a state in bytes.
 pub fn step(bytes: [u8; 15], violation: u32, byte: u32, control: u32) -> Step
-    ensures { stepSays result ≡ stepNumbers bytes violation byte control }
+    ensures { step_says result ≡ step_numbers bytes violation byte control }
 {
     let r = host_reader::reader_in(bytes);
     if !host_reader_bytes::is_reader(bytes) {
@@ -58,7 +58,7 @@ pub fn step(bytes: [u8; 15], violation: u32, byte: u32, control: u32) -> Step
 }
 
 fn number_told(event: u32, value: u8, number: u8) -> Told
-    ensures { result ≡ numberTold event value number }
+    ensures { result ≡ number_told event value number }
 {
     Told {
         refusal: 0,
@@ -69,14 +69,14 @@ fn number_told(event: u32, value: u8, number: u8) -> Told
 }
 
 fn mark_number(mark: bool) -> u8
-    ensures { result ≡ markNumber mark }
+    ensures { result ≡ mark_number mark }
 {
     if mark { 1 } else { 0 }
 }
 
 // What a step says, in numbers.
 pub fn told(e: Event) -> Told
-    ensures { result ≡ toldOf (eventSays e) }
+    ensures { result ≡ told_of (event_says e) }
 {
     match e {
         Event::Nothing => number_told(0, 0, 0),

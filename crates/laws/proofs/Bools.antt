@@ -21,8 +21,8 @@ pub implied : (a b : Bool) → T a → T (not a || b) → T b
 implied true b t u = u
 implied false b t u = absurd t
 
-pub true-T : (b : Bool) → b ≡ true → T b
-true-T b e = subst T (sym e) tt
+pub true_t : (b : Bool) → b ≡ true → T b
+true_t b e = subst T (sym e) tt
 
 pub T_true : (b : Bool) → T b → b ≡ true
 T_true true t = refl
@@ -32,8 +32,8 @@ T_true false t = absurd t
 abbrev pub agree : Bool → Bool → Bool
 agree a b = cond a b (not b)
 
-pub agree-eq : (a b : Bool) → T (agree a b) → a ≡ b
-agree-eq true true t = refl
-agree-eq true false t = absurd t
-agree-eq false true t = absurd t
-agree-eq false false t = refl
+pub agree_eq : (a b : Bool) → T (agree a b) → a ≡ b
+agree_eq true true t = refl
+agree_eq true false t = absurd t
+agree_eq false true t = absurd t
+agree_eq false false t = refl

@@ -20,11 +20,11 @@ module _ {S : Type 0} (step : S → ℕ → S) (ok : S → Bool) where
   passes_append s [] ys k t = t
   passes_append s (x ∷ xs) ys k t = joined (ok (step s x)) _ _ (passes_append (step s x) xs ys k) t
 
-  pub passes-weaker : (s : S) (xs : List ℕ) (k l : S → Bool) → ((u : S) → T (k u) → T (l u)) → T (passes s xs k) → T (passes s xs l)
-  passes-weaker s [] k l f t = f s t
-  passes-weaker s (x ∷ xs) k l f t = joined (ok (step s x)) _ _ (passes-weaker (step s x) xs k l f) t
+  pub passes_weaker : (s : S) (xs : List ℕ) (k l : S → Bool) → ((u : S) → T (k u) → T (l u)) → T (passes s xs k) → T (passes s xs l)
+  passes_weaker s [] k l f t = f s t
+  passes_weaker s (x ∷ xs) k l f t = joined (ok (step s x)) _ _ (passes_weaker (step s x) xs k l f) t
 
   -- a later part of the line passes, from some state
-  pub passes-later : (s : S) (xs ys : List ℕ) (k : S → Bool) → T (passes s (xs ++ ys) k) → (u : S) × T (passes u ys k)
-  passes-later s [] ys k t = (s, t)
-  passes-later s (x ∷ xs) ys k t = passes-later (step s x) xs ys k (and_right (ok (step s x)) (passes (step s x) (xs ++ ys) k) t)
+  pub passes_later : (s : S) (xs ys : List ℕ) (k : S → Bool) → T (passes s (xs ++ ys) k) → (u : S) × T (passes u ys k)
+  passes_later s [] ys k t = (s, t)
+  passes_later s (x ∷ xs) ys k t = passes_later (step s x) xs ys k (and_right (ok (step s x)) (passes (step s x) (xs ++ ys) k) t)

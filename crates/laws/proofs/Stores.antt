@@ -9,12 +9,12 @@ use lib.ListN.{length, get_or, set, take, drop, length-append, length-drop}
 use lib.Seq.{take-suc, drop-cons, set_at, take_all, length-take-le}
 
 module _ {A : Type 0} (result old : List A) where
-  pub stored-length : (k : ℕ) → k ≤ length result → k ≤ length old → length (take k result ++ drop k old) ≡ length old
-  stored-length k h g = simp (length-append, length-take-le k result h, length-drop) (omega arith)
+  pub stored_length : (k : ℕ) → k ≤ length result → k ≤ length old → length (take k result ++ drop k old) ≡ length old
+  stored_length k h g = simp (length-append, length-take-le k result h, length-drop) (omega arith)
 
   -- one more
-  pub store-next : (d : A) (k : ℕ) → k < length result → k < length old → set (take k result ++ drop k old) k (get_or result k d) ≡ take (k + 1) result ++ drop (k + 1) old
-  store-next d k h g =
+  pub store_next : (d : A) (k : ℕ) → k < length result → k < length old → set (take k result ++ drop k old) k (get_or result k d) ≡ take (k + 1) result ++ drop (k + 1) old
+  store_next d k h g =
       ap (λ (l : List A). set (take k result ++ l) k (get_or result k d)) (drop-cons old k d g)
       ∙ set_at (take k result) (get_or old k d) (drop (suc k) old) (get_or result k d) k (length-take-le k result (omega arith))
       ∙ sym (append_assoc (take k result) (get_or result k d ∷ []) (drop (suc k) old))
@@ -22,5 +22,5 @@ module _ {A : Type 0} (result old : List A) where
       ∙ ap (λ (n : ℕ). take n result ++ drop n old) (sym (add-one k))
 
   -- all
-  pub stored-all : (k : ℕ) → length result ≡ k → take k result ++ drop k old ≡ result ++ drop k old
-  stored-all k e = ap (λ (l : List A). l ++ drop k old) (take_all k result (omega arith))
+  pub stored_all : (k : ℕ) → length result ≡ k → take k result ++ drop k old ≡ result ++ drop k old
+  stored_all k e = ap (λ (l : List A). l ++ drop k old) (take_all k result (omega arith))

@@ -16,20 +16,20 @@ bit zero h = b0
 bit (suc zero) h = b1
 bit (suc (suc x)) h = absurd (omega arith)
 
-pub bit-of : (x : ℕ) → Bit (x % 2)
-bit-of x = bit (x % 2) (mod-lt x (zero-lt-suc 1))
+pub bit_of_lem : (x : ℕ) → Bit (x % 2)
+bit_of_lem x = bit (x % 2) (mod-lt x (zero-lt-suc 1))
 
-differ-assoc : {x y z : ℕ} → Bit x → Bit y → Bit z → differ (differ x y) z ≡ differ x (differ y z)
-differ-assoc b0 y z = refl
-differ-assoc b1 b0 z = refl
-differ-assoc b1 b1 b0 = refl
-differ-assoc b1 b1 b1 = refl
+differ_assoc : {x y z : ℕ} → Bit x → Bit y → Bit z → differ (differ x y) z ≡ differ x (differ y z)
+differ_assoc b0 y z = refl
+differ_assoc b1 b0 z = refl
+differ_assoc b1 b1 b0 = refl
+differ_assoc b1 b1 b1 = refl
 
-pub half-xor : (a b : ℕ) → bit_xor a b / 2 ≡ bit_xor (a / 2) (b / 2)
-half-xor a b = xor_shr a b 1
+pub half_xor : (a b : ℕ) → bit_xor a b / 2 ≡ bit_xor (a / 2) (b / 2)
+half_xor a b = xor_shr a b 1
 
-pub odd-xor : (a b : ℕ) → bit_xor a b % 2 ≡ differ (a % 2) (b % 2)
-odd-xor a b = go (bit-of a) (bit-of b) (xor_mod a b 1)
+pub odd_xor : (a b : ℕ) → bit_xor a b % 2 ≡ differ (a % 2) (b % 2)
+odd_xor a b = go (bit_of_lem a) (bit_of_lem b) (xor_mod a b 1)
   where
     go : {x y r : ℕ} → Bit x → Bit y → r ≡ bit_xor x y → r ≡ differ x y
     go b0 b0 e = e
@@ -42,13 +42,13 @@ xor_assoc a =
     bin_ind (λ (n : ℕ). (b c : ℕ) → bit_xor (bit_xor n b) c ≡ bit_xor n (bit_xor b c)) (λ b c. refl)
     (λ n ih b c.
     xor_step (bit_xor n b) c
-    ∙ ap₂ (λ (x y : ℕ). bit_xor x (c / 2) * 2 + differ y (c % 2)) (half-xor n b) (odd-xor n b)
-    ∙ ap₂ (λ (x y : ℕ). x * 2 + y) (ih (b / 2) (c / 2)) (differ-assoc (bit-of n) (bit-of b) (bit-of c))
-    ∙ sym (ap₂ (λ (x y : ℕ). bit_xor (n / 2) x * 2 + differ (n % 2) y) (half-xor b c) (odd-xor b c))
+    ∙ ap₂ (λ (x y : ℕ). bit_xor x (c / 2) * 2 + differ y (c % 2)) (half_xor n b) (odd_xor n b)
+    ∙ ap₂ (λ (x y : ℕ). x * 2 + y) (ih (b / 2) (c / 2)) (differ_assoc (bit_of_lem n) (bit_of_lem b) (bit_of_lem c))
+    ∙ sym (ap₂ (λ (x y : ℕ). bit_xor (n / 2) x * 2 + differ (n % 2) y) (half_xor b c) (odd_xor b c))
     ∙ sym (xor_step n (bit_xor b c))) a
 
-pub xor-swap : (a b c d : ℕ) → bit_xor (bit_xor a b) (bit_xor c d) ≡ bit_xor (bit_xor a c) (bit_xor b d)
-xor-swap a b c d =
+pub xor_swap : (a b c d : ℕ) → bit_xor (bit_xor a b) (bit_xor c d) ≡ bit_xor (bit_xor a c) (bit_xor b d)
+xor_swap a b c d =
     xor_assoc a b (bit_xor c d)
     ∙ ap (bit_xor a) (sym (xor_assoc b c d) ∙ ap (λ (x : ℕ). bit_xor x d) (xor_comm b c) ∙ xor_assoc c b d)
     ∙ sym (xor_assoc a c (bit_xor b d))

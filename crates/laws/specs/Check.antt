@@ -23,19 +23,19 @@ lower [] = []
 lower (x ∷ xs) = xs
 
 -- one bit: the highest coefficient leaves, the others move up, and if what left differs from the bit that comes the polynomial is laid over them
-unfoldable pub checkBit : List Bool → List Bool → Bool → List Bool
-checkBit polynomial register b = overlay (lower register ++ (false ∷ [])) (cond (xor (highest register) b) polynomial [])
+unfoldable pub check_bit : List Bool → List Bool → Bool → List Bool
+check_bit polynomial register b = overlay (lower register ++ (false ∷ [])) (cond (xor (highest register) b) polynomial [])
 
-unfoldable pub checkBits : List Bool → List Bool → List Bool → List Bool
-checkBits polynomial register [] = register
-checkBits polynomial register (b ∷ bs) = checkBits polynomial (checkBit polynomial register b) bs
+unfoldable pub check_bits : List Bool → List Bool → List Bool → List Bool
+check_bits polynomial register [] = register
+check_bits polynomial register (b ∷ bs) = check_bits polynomial (check_bit polynomial register b) bs
 
 -- ---- bits in the order of a line that sends the least significant first
 
 -- the lowest k bits of a number, and the number that has these bits
-unfoldable pub lowestFirst : ℕ → ℕ → List Bool
-lowestFirst zero n = []
-lowestFirst (suc k) n = eqb (n % 2) 1 ∷ lowestFirst k (n / 2)
+unfoldable pub lowest_first : ℕ → ℕ → List Bool
+lowest_first zero n = []
+lowest_first (suc k) n = eqb (n % 2) 1 ∷ lowest_first k (n / 2)
 
 unfoldable pub number_of : List Bool → ℕ
 number_of [] = 0
@@ -44,7 +44,7 @@ number_of (b ∷ bs) = number_of bs * 2 + cond b 1 0
 -- the bits of a run of bytes
 unfoldable pub bits_of : List ℕ → List Bool
 bits_of [] = []
-bits_of (b ∷ bs) = lowestFirst 8 b ++ bits_of bs
+bits_of (b ∷ bs) = lowest_first 8 b ++ bits_of bs
 
 -- n bytes with these bits
 unfoldable pub bytes_of : ℕ → List Bool → List ℕ

@@ -8,8 +8,8 @@ abbrev pub all_below : ℕ → List ℕ → Bool
 all_below m ns = all_of (λ (n : ℕ). ltb n m) ns
 
 -- each of a list is zero
-abbrev pub allZero : List ℕ → Bool
-allZero ns = all_of (eqb 0) ns
+abbrev pub all_zero : List ℕ → Bool
+all_zero ns = all_of (eqb 0) ns
 
 -- the lowest k bits of each number, one number after the other
 abbrev pub bits_of : ℕ → List ℕ → List ℕ

@@ -12,6 +12,6 @@ one_of n [] = false
 one_of n (m ∷ ms) = eqb n m || one_of n ms
 
 -- k numbers from n on
-abbrev pub countFrom : ℕ → ℕ → List ℕ
-countFrom n zero = []
-countFrom n (suc k) = n ∷ countFrom (suc n) k
+abbrev pub count_from : ℕ → ℕ → List ℕ
+count_from n zero = []
+count_from n (suc k) = n ∷ count_from (suc n) k

@@ -1,6 +1,6 @@
 // The listing of a capture, handed out in pieces.
 ghost use Rattle.std.specs.Prelude.{◌≡◌, ◌++◌, length, drop};
-ghost use Rattle.listing_rules.specs.Pieces.{says, piece_of, doneSays, nextSays, nextLeaves};
+ghost use Rattle.listing_rules.specs.Pieces.{says, piece_of, done_says, next_says, next_leaves};
 ghost use Rattle.listing_rules.specs.declared.Listing.TheVariants.{Fresh as IsFresh};
 
 use listing_rules::{Listing, Next, Piece, Reached};
@@ -8,7 +8,7 @@ use packet_rules::FreshReader;
 
 // The header, or the one line of a refused capture.
 fn first_piece(capture: &[u8], out: &mut [u8; 2048]) -> Next
-    ensures { (says result ≡ doneSays capture.now IsFresh)
+    ensures { (says result ≡ done_says capture.now IsFresh)
         × (out.new ≡ piece_of capture.now IsFresh ++ drop (length (piece_of capture.now IsFresh)) out.old) }
 {
     if !capture::is_legal(capture) {
@@ -41,8 +41,8 @@ fn first_piece(capture: &[u8], out: &mut [u8; 2048]) -> Next
 
 // The next piece of a capture's listing, into the front of `out`.
 pub fn next(capture: &[u8], listing: Listing, out: &mut [u8; 2048]) -> Next
-    ensures { (says result ≡ nextSays capture.now listing)
-        × (out.new ≡ nextLeaves capture.now listing out.old) }
+    ensures { (says result ≡ next_says capture.now listing)
+        × (out.new ≡ next_leaves capture.now listing out.old) }
 {
     match listing {
         Listing::Fresh => first_piece(capture, out),

@@ -9,68 +9,68 @@ use lib.ListN.{length, length-append}
 use borrow.Author.Tests.{le-leb}
 use Rattle.packet_rules.specs.declared.Event.{Event}
 use Rattle.packet_rules.specs.declared.Event.TheVariants.{Nothing, StartData, StartPriority, Byte, End, Lmp, Violation, Refused}
-use Rattle.packet_rules.specs.Answers.{eventSays}
-use Rattle.listing_rules.specs.Text.{decimal, space, lineFeed, startWord, dataWord, priorityWord, violationWord, end_word, badWord, goodWord, lmpWord}
-use Rattle.listing_rules.specs.Text.{ackWord, nackWord}
-use Rattle.listing_rules.specs.Lines.{fields_of, eventLine}
-use Rattle.listing_text.specs.Writing.{wordedLine, numberedLine, wordedRoom, numberedRoom, index_after, outputAfter, Wrote}
-use Rattle.listing_text.proofs.Decimal.{decimal-short}
-use Rattle.listing_text.proofs.Written.{put-wrote}
+use Rattle.packet_rules.specs.Answers.{event_says}
+use Rattle.listing_rules.specs.Text.{decimal, space, line_feed, start_word, data_word, priority_word, violation_word, end_word, bad_word, good_word, lmp_word}
+use Rattle.listing_rules.specs.Text.{ack_word, nack_word}
+use Rattle.listing_rules.specs.Lines.{fields_of, event_line}
+use Rattle.listing_text.specs.Writing.{worded_line, numbered_line, worded_room, numbered_room, index_after, output_after, Wrote}
+use Rattle.listing_text.proofs.Decimal.{decimal_short}
+use Rattle.listing_text.proofs.Written.{put_wrote}
 
 -- ---- the words, with the spaces about them
 
-abbrev pub startData : List ℕ
-startData = space ∷ (startWord ++ (space ∷ (dataWord ++ space ∷ [])))
+abbrev pub start_data : List ℕ
+start_data = space ∷ (start_word ++ (space ∷ (data_word ++ space ∷ [])))
 
-abbrev pub startPriority : List ℕ
-startPriority = space ∷ (startWord ++ (space ∷ (priorityWord ++ space ∷ [])))
+abbrev pub start_priority : List ℕ
+start_priority = space ∷ (start_word ++ (space ∷ (priority_word ++ space ∷ [])))
 
 abbrev pub violation : List ℕ
-violation = space ∷ (violationWord ++ space ∷ [])
+violation = space ∷ (violation_word ++ space ∷ [])
 
-abbrev pub endBad : List ℕ
-endBad = space ∷ (end_word ++ (space ∷ (badWord ++ lineFeed ∷ [])))
+abbrev pub end_bad : List ℕ
+end_bad = space ∷ (end_word ++ (space ∷ (bad_word ++ line_feed ∷ [])))
 
-abbrev pub endGood : List ℕ
-endGood = space ∷ (end_word ++ (space ∷ (goodWord ++ lineFeed ∷ [])))
+abbrev pub end_good : List ℕ
+end_good = space ∷ (end_word ++ (space ∷ (good_word ++ line_feed ∷ [])))
 
-abbrev pub lmpNack : List ℕ
-lmpNack = space ∷ (lmpWord ++ (space ∷ (nackWord ++ space ∷ [])))
+abbrev pub lmp_nack : List ℕ
+lmp_nack = space ∷ (lmp_word ++ (space ∷ (nack_word ++ space ∷ [])))
 
-abbrev pub lmpAck : List ℕ
-lmpAck = space ∷ (lmpWord ++ (space ∷ (ackWord ++ space ∷ [])))
+abbrev pub lmp_ack : List ℕ
+lmp_ack = space ∷ (lmp_word ++ (space ∷ (ack_word ++ space ∷ [])))
 
 -- ---- at most 32 bytes
 
-worded-short : (place : ℕ) (w : List ℕ) → length w ≤ 27 → length (wordedLine place w) ≤ 32
-worded-short place w h = let l = length-append (decimal place) w in let d = decimal-short place in omega arith
+worded_short : (place : ℕ) (w : List ℕ) → length w ≤ 27 → length (worded_line place w) ≤ 32
+worded_short place w h = let l = length-append (decimal place) w in let d = decimal_short place in omega arith
 
-numbered-short : (place n : ℕ) (w : List ℕ) → length w ≤ 21 → length (numberedLine place w n) ≤ 32
-numbered-short place n w h =
-    let l = length-append w (decimal n ++ lineFeed ∷ []) in
-    let m = length-append (decimal n) (lineFeed ∷ []) in
-    let d = decimal-short n in
-    worded-short place (w ++ (decimal n ++ lineFeed ∷ [])) (omega arith)
+numbered_short : (place n : ℕ) (w : List ℕ) → length w ≤ 21 → length (numbered_line place w n) ≤ 32
+numbered_short place n w h =
+    let l = length-append w (decimal n ++ line_feed ∷ []) in
+    let m = length-append (decimal n) (line_feed ∷ []) in
+    let d = decimal_short n in
+    worded_short place (w ++ (decimal n ++ line_feed ∷ [])) (omega arith)
 
-pub event-short : (place : ℕ) (e : Event) → length (eventLine place (fields_of (eventSays e))) ≤ 32
-event-short place Nothing = omega arith
-event-short place (Byte b) = omega arith
-event-short place (Refused n) = omega arith
-event-short place (StartData c) = numbered-short place c startData (omega arith)
-event-short place (StartPriority c n) = numbered-short place c startPriority (omega arith)
-event-short place (Violation n) = numbered-short place n violation (omega arith)
-event-short place (End true) = worded-short place endBad (omega arith)
-event-short place (End false) = worded-short place endGood (omega arith)
-event-short place (Lmp true n) = numbered-short place n lmpNack (omega arith)
-event-short place (Lmp false n) = numbered-short place n lmpAck (omega arith)
+pub event_short : (place : ℕ) (e : Event) → length (event_line place (fields_of (event_says e))) ≤ 32
+event_short place Nothing = omega arith
+event_short place (Byte b) = omega arith
+event_short place (Refused n) = omega arith
+event_short place (StartData c) = numbered_short place c start_data (omega arith)
+event_short place (StartPriority c n) = numbered_short place c start_priority (omega arith)
+event_short place (Violation n) = numbered_short place n violation (omega arith)
+event_short place (End true) = worded_short place end_bad (omega arith)
+event_short place (End false) = worded_short place end_good (omega arith)
+event_short place (Lmp true n) = numbered_short place n lmp_nack (omega arith)
+event_short place (Lmp false n) = numbered_short place n lmp_ack (omega arith)
 
 -- ---- with 32 bytes of room it is put
 
 module _ (place at : ℕ) (words old new : List ℕ) (after : ℕ) (h : at ≤ 2016) where
-  pub worded-wrote : length words ≤ 27 → (after ≡ index_after (wordedRoom at words) at (wordedLine place words))
-      × (new ≡ outputAfter (wordedRoom at words) at (wordedLine place words) old) → Wrote at (wordedLine place words) old new after
-  worded-wrote l = put-wrote (wordedRoom at words) at (wordedLine place words) old new after (le-leb (at + (length words + 5)) 2048 (omega arith))
+  pub worded_wrote : length words ≤ 27 → (after ≡ index_after (worded_room at words) at (worded_line place words))
+      × (new ≡ output_after (worded_room at words) at (worded_line place words) old) → Wrote at (worded_line place words) old new after
+  worded_wrote l = put_wrote (worded_room at words) at (worded_line place words) old new after (le-leb (at + (length words + 5)) 2048 (omega arith))
 
-  pub numbered-wrote : (n : ℕ) → length words ≤ 21 → (after ≡ index_after (numberedRoom at words) at (numberedLine place words n))
-      × (new ≡ outputAfter (numberedRoom at words) at (numberedLine place words n) old) → Wrote at (numberedLine place words n) old new after
-  numbered-wrote n l = put-wrote (numberedRoom at words) at (numberedLine place words n) old new after (le-leb (at + (length words + 11)) 2048 (omega arith))
+  pub numbered_wrote : (n : ℕ) → length words ≤ 21 → (after ≡ index_after (numbered_room at words) at (numbered_line place words n))
+      × (new ≡ output_after (numbered_room at words) at (numbered_line place words n) old) → Wrote at (numbered_line place words n) old new after
+  numbered_wrote n l = put_wrote (numbered_room at words) at (numbered_line place words n) old new after (le-leb (at + (length words + 11)) 2048 (omega arith))

@@ -10,75 +10,75 @@ use native.Mathlib.Omega.{arith}
 use lib.Dec.{leb, leb→le}
 use lib.ListN.{length, drop, take, get_or}
 use lib.Seq.{take-suc, length-take-le}
-use Rattle.laws.proofs.Bools.{true-T, and_left, and_right}
-use Rattle.character_rules.specs.Answers.{Reading, readingSays}
+use Rattle.laws.proofs.Bools.{true_t, and_left, and_right}
+use Rattle.character_rules.specs.Answers.{Reading, reading_says}
 use Rattle.character_rules.specs.Results.{unpacked}
 use Rattle.character_rules.specs.declared.Decoded.{Decoded}
 use Rattle.packet_rules.specs.declared.Reader.{Reader}
 use Rattle.packet_rules.specs.declared.Step.{Step}
-use Rattle.packet_rules.specs.Answers.{Said, Answer, eventSays, stepSays}
+use Rattle.packet_rules.specs.Answers.{Said, Answer, event_says, step_says}
 use Rattle.packet_rules.specs.Step.{step_of}
 use Rattle.packet_rules.specs.Line.{said_of, after_of}
 use Rattle.listing_rules.specs.declared.Reached.{Reached}
-use Rattle.listing_rules.specs.Lines.{fields_of, eventLine, listed, lines_from, eventsIn}
-use Rattle.listing_rules.proofs.Runs.{said-append, after-append, lines-append, events-append, length-said, events-few}
+use Rattle.listing_rules.specs.Lines.{fields_of, event_line, listed, lines_from, events_in}
+use Rattle.listing_rules.proofs.Runs.{said_append, after_append, lines_append, events_append, length_said, events_few}
 use Rattle.listing_lines.specs.declared.Progress.{Progress}
 use Rattle.listing_text.specs.Writing.{Wrote}
-use Rattle.listing_lines.specs.Results.{takes, saidOfResults, lines_of, begun, progressOf, linesPut, Listed}
-use Rattle.listing_text.proofs.Written.{wrote_none, wrote-more, wrote-whole}
-use Rattle.listing_lines.proofs.Events.{event-short}
+use Rattle.listing_lines.specs.Results.{takes, said_of_results, lines_of, begun, progress_of, lines_put, Listed}
+use Rattle.listing_text.proofs.Written.{wrote_none, wrote_more, wrote_whole}
+use Rattle.listing_lines.proofs.Events.{event_short}
 
 -- ---- one result
 
-module _ (place result : ℕ) (p : Progress) (old new : List ℕ) (g : Decoded) (s : Step) (after n : ℕ) (eg : readingSays g ≡ unpacked result)
-    (es : stepSays s ≡ step_of p.reader (readingSays g)) (w : Wrote p.at (eventLine place (fields_of (eventSays s.event))) old new after)
-    (en : n ≡ listed (fields_of (eventSays s.event))) where
-  step_is : stepSays s ≡ step_of p.reader (unpacked result)
+module _ (place result : ℕ) (p : Progress) (old new : List ℕ) (g : Decoded) (s : Step) (after n : ℕ) (eg : reading_says g ≡ unpacked result)
+    (es : step_says s ≡ step_of p.reader (reading_says g)) (w : Wrote p.at (event_line place (fields_of (event_says s.event))) old new after)
+    (en : n ≡ listed (fields_of (event_says s.event))) where
+  step_is : step_says s ≡ step_of p.reader (unpacked result)
   step_is = es ∙ ap (step_of p.reader) eg
 
-  fields : fields_of (eventSays s.event) ≡ fields_of (step_of p.reader (unpacked result)).said
+  fields : fields_of (event_says s.event) ≡ fields_of (step_of p.reader (unpacked result)).said
   fields = ap (λ (a : Answer). fields_of a.said) step_is
 
-  pub listed-one : Listed place (result ∷ []) p old new (record { at = after; events = p.events + n; reader = s.reader })
-  unfolding lines_from eventsIn said_of after_of
-  listed-one =
+  pub listed_one : Listed place (result ∷ []) p old new (record { at = after; events = p.events + n; reader = s.reader })
+  unfolding lines_from events_in said_of after_of
+  listed_one =
       record {
         text = subst (λ (t : List ℕ). Wrote p.at t old new after)
-            (ap (eventLine place) fields ∙ sym (append-nil (eventLine place (fields_of (step_of p.reader (unpacked result)).said)))) w;
+            (ap (event_line place) fields ∙ sym (append-nil (event_line place (fields_of (step_of p.reader (unpacked result)).said)))) w;
         events = ap (λ (k : ℕ). p.events + k) (en ∙ ap listed fields ∙ sym (add-zero (listed (fields_of (step_of p.reader (unpacked result)).said))));
         reader = ap (λ (a : Answer). a.reader) step_is;
       }
 
-  pub listed-short : after ≤ p.at + 32
-  listed-short = let z = w.size in let h = event-short place s.event in omega arith
+  pub listed_short : after ≤ p.at + 32
+  listed_short = let z = w.size in let h = event_short place s.event in omega arith
 
-no_line : (place : ℕ) (fields : List (List ℕ)) → listed fields ≡ 0 → eventLine place fields ≡ []
+no_line : (place : ℕ) (fields : List (List ℕ)) → listed fields ≡ 0 → event_line place fields ≡ []
 no_line place [] e = refl
 no_line place (f ∷ fs) e = absurd (omega arith)
 
 -- a result that has no line
-module _ (place result : ℕ) (p : Progress) (old : List ℕ) (g : Decoded) (s : Step) (eg : readingSays g ≡ unpacked result)
-    (es : stepSays s ≡ step_of p.reader (readingSays g)) (none : listed (fields_of (eventSays s.event)) ≡ 0) where
-  pub listed-nothing : Listed place (result ∷ []) p old old (record { at = p.at; events = p.events; reader = s.reader })
-  listed-nothing =
-      let w : Wrote p.at (eventLine place (fields_of (eventSays s.event))) old old p.at =
-      subst (λ (t : List ℕ). Wrote p.at t old old p.at) (sym (no_line place (fields_of (eventSays s.event)) none)) (wrote_none p.at old) in
+module _ (place result : ℕ) (p : Progress) (old : List ℕ) (g : Decoded) (s : Step) (eg : reading_says g ≡ unpacked result)
+    (es : step_says s ≡ step_of p.reader (reading_says g)) (none : listed (fields_of (event_says s.event)) ≡ 0) where
+  pub listed_nothing : Listed place (result ∷ []) p old old (record { at = p.at; events = p.events; reader = s.reader })
+  listed_nothing =
+      let w : Wrote p.at (event_line place (fields_of (event_says s.event))) old old p.at =
+      subst (λ (t : List ℕ). Wrote p.at t old old p.at) (sym (no_line place (fields_of (event_says s.event)) none)) (wrote_none p.at old) in
       subst (λ (k : ℕ). Listed place (result ∷ []) p old old (record { at = p.at; events = k; reader = s.reader })) (add-zero p.events)
-      (listed-one place result p old old g s p.at 0 eg es w (sym none))
+      (listed_one place result p old old g s p.at 0 eg es w (sym none))
 
 -- ---- two runs
 
-pub listed-none : (place : ℕ) (p : Progress) (old : List ℕ) → Listed place [] p old old p
-unfolding lines_from eventsIn said_of after_of
-listed-none place p old = record { text = wrote_none p.at old; events = sym (add-zero p.events); reader = refl }
+pub listed_none : (place : ℕ) (p : Progress) (old : List ℕ) → Listed place [] p old old p
+unfolding lines_from events_in said_of after_of
+listed_none place p old = record { text = wrote_none p.at old; events = sym (add-zero p.events); reader = refl }
 
 map_both : (f : ℕ → Reading) (xs ys : List ℕ) → map f (xs ++ ys) ≡ map f xs ++ map f ys
 map_both f [] ys = refl
 map_both f (x ∷ xs) ys = ap (λ (l : List Reading). f x ∷ l) (map_both f xs ys)
 
-map-size : (f : ℕ → Reading) (xs : List ℕ) → length (map f xs) ≡ length xs
-map-size f [] = refl
-map-size f (x ∷ xs) = ap suc (map-size f xs)
+map_size : (f : ℕ → Reading) (xs : List ℕ) → length (map f xs) ≡ length xs
+map_size f [] = refl
+map_size f (x ∷ xs) = ap suc (map_size f xs)
 
 module _ (place : ℕ) (xs ys : List ℕ) (p q t : Progress) (old mid new : List ℕ) (a : Listed place xs p old mid q)
     (b : Listed (place + length xs) ys q mid new t) where
@@ -93,25 +93,25 @@ module _ (place : ℕ) (xs ys : List ℕ) (p q t : Progress) (old mid new : List
       let r = p.reader in
       let es = said_of r gs in
       let fs = said_of (after_of r gs) hs in
-      let size : length es ≡ length xs = length-said r gs ∙ map-size unpacked xs in
-      let said : said_of r (map unpacked (xs ++ ys)) ≡ es ++ fs = ap (said_of r) (map_both unpacked xs ys) ∙ said-append r gs hs in
+      let size : length es ≡ length xs = length_said r gs ∙ map_size unpacked xs in
+      let said : said_of r (map unpacked (xs ++ ys)) ≡ es ++ fs = ap (said_of r) (map_both unpacked xs ys) ∙ said_append r gs hs in
       let later : said_of q.reader hs ≡ fs = ap (λ (x : Reader). said_of x hs) a.reader in
       let lines : lines_from place es ++ lines_from (place + length xs) (said_of q.reader hs) ≡ lines_from place (said_of r (map unpacked (xs ++ ys))) =
-      ap₂ (λ (l : List Said) (n : ℕ). lines_from place es ++ lines_from (place + n) l) later (sym size) ∙ sym (lines-append place es fs)
+      ap₂ (λ (l : List Said) (n : ℕ). lines_from place es ++ lines_from (place + n) l) later (sym size) ∙ sym (lines_append place es fs)
       ∙ ap (lines_from place) (sym said) in
       record {
-        text = subst (λ (l : List ℕ). Wrote p.at l old new t.at) lines (wrote-more a.text b.text);
-        events = b.events ∙ ap₂ ◌+◌ a.events (ap eventsIn later) ∙ add_assoc p.events (eventsIn es) (eventsIn fs)
-            ∙ ap (λ (n : ℕ). p.events + n) (sym (events-append es fs) ∙ ap eventsIn (sym said));
-        reader = b.reader ∙ ap (λ (x : Reader). after_of x hs) a.reader ∙ sym (ap (after_of r) (map_both unpacked xs ys) ∙ after-append r gs hs);
+        text = subst (λ (l : List ℕ). Wrote p.at l old new t.at) lines (wrote_more a.text b.text);
+        events = b.events ∙ ap₂ ◌+◌ a.events (ap events_in later) ∙ add_assoc p.events (events_in es) (events_in fs)
+            ∙ ap (λ (n : ℕ). p.events + n) (sym (events_append es fs) ∙ ap events_in (sym said));
+        reader = b.reader ∙ ap (λ (x : Reader). after_of x hs) a.reader ∙ sym (ap (after_of r) (map_both unpacked xs ys) ∙ after_append r gs hs);
       }
 
 -- no more events than results
-pub listed-few : {place : ℕ} {xs : List ℕ} {p q : Progress} {old new : List ℕ} → Listed place xs p old new q → q.events ≤ p.events + length xs
-listed-few {place} {xs} {p} {q} l =
+pub listed_few : {place : ℕ} {xs : List ℕ} {p q : Progress} {old new : List ℕ} → Listed place xs p old new q → q.events ≤ p.events + length xs
+listed_few {place} {xs} {p} {q} l =
     let e = l.events in
-    let f = events-few (said_of p.reader (map unpacked xs)) in
-    let n = length-said p.reader (map unpacked xs) ∙ map-size unpacked xs in
+    let f = events_few (said_of p.reader (map unpacked xs)) in
+    let n = length_said p.reader (map unpacked xs) ∙ map_size unpacked xs in
     omega arith
 
 -- one result more of a run
@@ -130,19 +130,19 @@ module _ (results : List ℕ) (place : ℕ) (p q t : Progress) (old mid new : Li
 
 module _ (results : List ℕ) (from : Reached) (old new : List ℕ) (r : Progress) where
   abbrev Comes : Type 0
-  Comes = (r ≡ progressOf results from) × (new ≡ linesPut results from old)
+  Comes = (r ≡ progress_of results from) × (new ≡ lines_put results from old)
 
   abbrev done : Progress
   done =
       record {
         at = length (lines_of results from);
-        events = from.events + eventsIn (saidOfResults results from);
+        events = from.events + events_in (said_of_results results from);
         reader = after_of from.reader (map unpacked results);
       }
 
-  pub block-done : takes results from ≡ true → Listed from.place results (begun from) old new r → Comes
-  block-done e l =
-      let w = wrote-whole l.text in
+  pub block_done : takes results from ≡ true → Listed from.place results (begun from) old new r → Comes
+  block_done e l =
+      let w = wrote_whole l.text in
       let a = w.0 in
       let b = l.events in
       let c = l.reader in
@@ -165,13 +165,13 @@ module _ (results : List ℕ) (from : Reached) (old new : List ℕ) (r : Progres
         reader = ap (λ (p : Progress). p.reader) same;
       }
 
-pub block-not : (results : List ℕ) (from : Reached) (old : List ℕ) → takes results from ≡ false
-    → (begun from ≡ progressOf results from) × (old ≡ linesPut results from old)
-block-not results from old e = (sym (rw e), sym (rw e))
+pub block_not : (results : List ℕ) (from : Reached) (old : List ℕ) → takes results from ≡ false
+    → (begun from ≡ progress_of results from) × (old ≡ lines_put results from old)
+block_not results from old e = (sym (rw e), sym (rw e))
 
-pub block-fits : (results : List ℕ) (from : Reached) → takes results from ≡ true → (length results ≤ 64) × (from.place ≤ 52428) × (from.events ≤ 52428)
-block-fits results from e =
-    let t = true-T (takes results from) e in
+pub block_fits : (results : List ℕ) (from : Reached) → takes results from ≡ true → (length results ≤ 64) × (from.place ≤ 52428) × (from.events ≤ 52428)
+block_fits results from e =
+    let t = true_t (takes results from) e in
     let u = and_right (leb (length results) 64) (leb from.place 52428 && leb from.events 52428) t in (
       leb→le (length results) 64 (and_left (leb (length results) 64) (leb from.place 52428 && leb from.events 52428) t),
       leb→le from.place 52428 (and_left (leb from.place 52428) (leb from.events 52428) u),

@@ -1,9 +1,9 @@
 // The lines of a run of results: each is a step of the reader and perhaps a line.
 ghost use Rattle.std.specs.Prelude.{◌≡◌, [], ◌∷◌, ◌+◌, ◌≤◌, ◌<◌};
-ghost use Rattle.packet_rules.specs.Answers.{eventSays};
-ghost use Rattle.listing_rules.specs.Lines.{fields_of, eventLine, listed};
+ghost use Rattle.packet_rules.specs.Answers.{event_says};
+ghost use Rattle.listing_rules.specs.Lines.{fields_of, event_line, listed};
 ghost use Rattle.listing_text.specs.Writing.{Wrote};
-ghost use Rattle.listing_lines.specs.Results.{isBlock, progressOf, linesPut, Listed};
+ghost use Rattle.listing_lines.specs.Results.{is_block, progress_of, lines_put, Listed};
 
 use listing_rules::Reached;
 use packet_rules::{Event, Reader};
@@ -18,7 +18,7 @@ pub struct Progress {
 
 fn put_end_of_packet(place: usize, bad: bool, at: usize, out: &mut [u8; 2048]) -> usize
     requires { at ≤ 2016 }
-    ensures { Wrote at (eventLine place (fields_of (eventSays (Event.End bad)))) out.old out.new result }
+    ensures { Wrote at (event_line place (fields_of (event_says (Event.End bad)))) out.old out.new result }
 {
     if bad {
         return listing_text::put_worded(place, b" end bad\n", at, out);
@@ -28,7 +28,7 @@ fn put_end_of_packet(place: usize, bad: bool, at: usize, out: &mut [u8; 2048]) -
 
 fn put_lmp(place: usize, nack: bool, number: u8, at: usize, out: &mut [u8; 2048]) -> usize
     requires { at ≤ 2016 }
-    ensures { Wrote at (eventLine place (fields_of (eventSays (Event.Lmp nack number)))) out.old out.new result }
+    ensures { Wrote at (event_line place (fields_of (event_says (Event.Lmp nack number)))) out.old out.new result }
 {
     if nack {
         return listing_text::put_numbered(place, b" lmp NACK ", number as usize, at, out);
@@ -39,7 +39,7 @@ fn put_lmp(place: usize, nack: bool, number: u8, at: usize, out: &mut [u8; 2048]
 // An event's line; none for nothing and for a byte.
 fn put_event(place: usize, event: Event, at: usize, out: &mut [u8; 2048]) -> usize
     requires { at ≤ 2016 }
-    ensures { Wrote at (eventLine place (fields_of (eventSays event))) out.old out.new result }
+    ensures { Wrote at (event_line place (fields_of (event_says event))) out.old out.new result }
 {
     match event {
         Event::Nothing => at,
@@ -70,7 +70,7 @@ fn put_event(place: usize, event: Event, at: usize, out: &mut [u8; 2048]) -> usi
 
 // 1 for an event that has a line.
 fn listed_events(event: Event) -> usize
-    ensures { result ≡ listed (fields_of (eventSays event)) }
+    ensures { result ≡ listed (fields_of (event_says event)) }
 {
     match event {
         Event::Nothing => 0,
@@ -108,7 +108,7 @@ fn put_result(res: u16, place: usize, p: Progress, out: &mut [u8; 2048]) -> Prog
 
 // Whether so many results, from such a place on, are a block.
 fn is_block(n: usize, place: usize, events: usize) -> bool
-    ensures { result ≡ isBlock n place events }
+    ensures { result ≡ is_block n place events }
 {
     if 64 < n {
         return false;
@@ -121,8 +121,8 @@ fn is_block(n: usize, place: usize, events: usize) -> bool
 
 // The lines of a block, at the front of the output; where it is no block, nothing is done.
 pub fn put_results(results: &[u16], from: Reached, out: &mut [u8; 2048]) -> Progress
-    ensures { (result ≡ progressOf results.now from)
-        × (out.new ≡ linesPut results.now from out.old) }
+    ensures { (result ≡ progress_of results.now from)
+        × (out.new ≡ lines_put results.now from out.old) }
 {
     let place = from.place;
     let reader = from.reader;

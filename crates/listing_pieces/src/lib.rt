@@ -1,10 +1,10 @@
 // A later piece of a listing: the characters are taken and read in bulk, and their results are listed; after the last comes the end.
 ghost use Rattle.std.specs.Prelude.{◌≡◌, true, ◌++◌, ◌+◌, ◌≤◌, ◌<◌, length, get_or, take, drop};
-ghost use Rattle.capture_rules.specs.Capture.{charactersOf, characterCount, legal};
-ghost use Rattle.listing_rules.specs.Lines.{endLine};
-ghost use Rattle.listing_rules.specs.Pieces.{says, keepsRule, piece_of, doneSays, nextSays, nextLeaves};
+ghost use Rattle.capture_rules.specs.Capture.{characters_of, character_count, legal};
+ghost use Rattle.listing_rules.specs.Lines.{end_line};
+ghost use Rattle.listing_rules.specs.Pieces.{says, keeps_rule, piece_of, done_says, next_says, next_leaves};
 ghost use Rattle.listing_rules.specs.declared.Listing.TheVariants.{Going as IsGoing};
-ghost use Rattle.listing_pieces.specs.Blocks.{blockLength};
+ghost use Rattle.listing_pieces.specs.Blocks.{block_length};
 
 use capture_rules::Answer;
 use character_rules::RunRead;
@@ -12,7 +12,7 @@ use listing_rules::{Listing, Next, Piece, Reached};
 
 // The rule of a listing that goes on.
 fn keeps_rule(p: Reached) -> bool
-    ensures { result ≡ keepsRule p }
+    ensures { result ≡ keeps_rule p }
 {
     if p.place < p.events {
         return false;
@@ -25,8 +25,8 @@ fn keeps_rule(p: Reached) -> bool
 }
 
 fn character_at(capture: &[u8], place: usize) -> u16
-    requires { (legal capture.now ≡ true) × (place < characterCount (length capture.now)) }
-    ensures { result ≡ get_or (charactersOf capture.now) place 0 }
+    requires { (legal capture.now ≡ true) × (place < character_count (length capture.now)) }
+    ensures { result ≡ get_or (characters_of capture.now) place 0 }
 {
     match capture::character_at(capture, place) {
         Answer::Number(n) => (n % 1024) as u16,
@@ -36,8 +36,8 @@ fn character_at(capture: &[u8], place: usize) -> u16
 
 // n characters from a place on, into the front of `out`.
 fn take_characters(capture: &[u8], place: usize, n: usize, out: &mut [u16])
-    requires { (legal capture.now ≡ true) × (place + n ≤ characterCount (length capture.now)) × (n ≤ length out.old) }
-    ensures { out.new ≡ take n (drop place (charactersOf capture.now)) ++ drop n out.old }
+    requires { (legal capture.now ≡ true) × (place + n ≤ character_count (length capture.now)) × (n ≤ length out.old) }
+    ensures { out.new ≡ take n (drop place (characters_of capture.now)) ++ drop n out.old }
 {
     let mut i = 0;
     while i < n {
@@ -48,15 +48,15 @@ fn take_characters(capture: &[u8], place: usize, n: usize, out: &mut [u16])
 
 // At most 64 of the characters that are left.
 fn block_length(left: usize) -> usize
-    ensures { result ≡ blockLength left }
+    ensures { result ≡ block_length left }
 {
     if left < 64 { left } else { 64 }
 }
 
 // The lines of the next characters.
 fn next_lines(capture: &[u8], p: Reached, out: &mut [u8; 2048]) -> Next
-    requires { (legal capture.now ≡ true) × (keepsRule p ≡ true) × (p.place < characterCount (length capture.now)) }
-    ensures { (says result ≡ doneSays capture.now (IsGoing p))
+    requires { (legal capture.now ≡ true) × (keeps_rule p ≡ true) × (p.place < character_count (length capture.now)) }
+    ensures { (says result ≡ done_says capture.now (IsGoing p))
         × (out.new ≡ piece_of capture.now (IsGoing p) ++ drop (length (piece_of capture.now (IsGoing p))) out.old) }
 {
     let place = p.place;
@@ -89,8 +89,8 @@ fn next_lines(capture: &[u8], p: Reached, out: &mut [u8; 2048]) -> Next
 
 // The last line.
 fn put_end(characters: usize, events: usize, out: &mut [u8; 2048]) -> usize
-    ensures { (result ≡ length (endLine characters events))
-        × (out.new ≡ endLine characters events ++ drop (length (endLine characters events)) out.old) }
+    ensures { (result ≡ length (end_line characters events))
+        × (out.new ≡ end_line characters events ++ drop (length (end_line characters events)) out.old) }
 {
     let at = listing_text::put_front(b"end ", &mut *out);
     listing_text::put_numbered(characters, b" ", events, at, out)
@@ -98,8 +98,8 @@ fn put_end(characters: usize, events: usize, out: &mut [u8; 2048]) -> usize
 
 // The lines of the next characters, or the last line.
 fn lines_or_end(capture: &[u8], p: Reached, out: &mut [u8; 2048]) -> Next
-    requires { (legal capture.now ≡ true) × (keepsRule p ≡ true) × (p.place ≤ characterCount (length capture.now)) }
-    ensures { (says result ≡ doneSays capture.now (IsGoing p))
+    requires { (legal capture.now ≡ true) × (keeps_rule p ≡ true) × (p.place ≤ character_count (length capture.now)) }
+    ensures { (says result ≡ done_says capture.now (IsGoing p))
         × (out.new ≡ piece_of capture.now (IsGoing p) ++ drop (length (piece_of capture.now (IsGoing p))) out.old) }
 {
     if p.place < 8 * capture.len() / 10 {
@@ -123,8 +123,8 @@ fn refused(number: u8, p: Reached) -> Next
 
 // The next piece of a listing that goes on, into the front of `out`.
 pub fn later_piece(capture: &[u8], p: Reached, out: &mut [u8; 2048]) -> Next
-    ensures { (says result ≡ nextSays capture.now (IsGoing p))
-        × (out.new ≡ nextLeaves capture.now (IsGoing p) out.old) }
+    ensures { (says result ≡ next_says capture.now (IsGoing p))
+        × (out.new ≡ next_leaves capture.now (IsGoing p) out.old) }
 {
     if !capture::is_legal(capture) {
         return refused(refusal::BAD_CAPTURE, p);

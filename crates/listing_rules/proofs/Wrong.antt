@@ -6,41 +6,41 @@ use Prim.Native.Nat.{ℕ, ◌<◌}
 use native.Mathlib.Omega.{arith}
 use lib.ListN.{length, take, drop, get_or, replicate, length-replicate}
 use lib.Seq.{get_or-take, take-append_seam}
-use Rattle.capture_rules.specs.Capture.{closingBits, legal}
+use Rattle.capture_rules.specs.Capture.{closing_bits, legal}
 use Rattle.listing_rules.specs.declared.Listing.{Listing}
 use Rattle.listing_rules.specs.declared.Listing.TheVariants.{Fresh, Going, Ended}
 use Rattle.listing_rules.specs.Lines.{header}
-use Rattle.listing_rules.specs.Pieces.{Said, wrote, wroteNothing, start, piece_of, listingAfter, nextChecks, nextSays, nextLeaves}
+use Rattle.listing_rules.specs.Pieces.{Said, wrote, wrote_nothing, start, piece_of, listing_after, next_checks, next_says, next_leaves}
 use Rattle.listing_rules.specs.Demand.{Lister, HandsOut, all, piece, Lists}
-use Rattle.listing_rules.proofs.Rows.{empty-capture}
-use Rattle.listing_rules.proofs.Unique.{never_both, size, one-listing}
+use Rattle.listing_rules.proofs.Rows.{empty_capture}
+use Rattle.listing_rules.proofs.Unique.{never_both, size, one_listing}
 
 -- ---- one that hands out nothing
 
 pub silent : Lister
-silent = record { answers = λ capture l. wroteNothing l; leaves = λ capture l old. old }
+silent = record { answers = λ capture l. wrote_nothing l; leaves = λ capture l old. old }
 
-pub silent-lists-not : Lists silent → ⊥
+pub silent_lists_not : Lists silent → ⊥
 unfolding silent
-silent-lists-not s =
-    let same = one-listing silent [] (all Fresh Fresh refl) (s.whole []) ∙ empty-capture in
+silent_lists_not s =
+    let same = one_listing silent [] (all Fresh Fresh refl) (s.whole []) ∙ empty_capture in
     let bad : ◌≡◌ {A = ℕ} 0 112 = ap (λ (l : List ℕ). get_or l 0 0) same in
     omega arith
 
 -- ---- one that answers as it should and stores nothing
 
-pub storesNothing : Lister
-storesNothing = record { answers = nextSays; leaves = λ capture l old. old }
+pub stores_nothing : Lister
+stores_nothing = record { answers = next_says; leaves = λ capture l old. old }
 
-first-answer : nextSays [] Fresh ≡ wrote (length header) (Going start)
-unfolding nextSays nextChecks piece_of listingAfter legal closingBits
-first-answer = refl
+first_answer : next_says [] Fresh ≡ wrote (length header) (Going start)
+unfolding next_says next_checks piece_of listing_after legal closing_bits
+first_answer = refl
 
-stored : {bytes : List ℕ} → HandsOut storesNothing [] Fresh bytes → ⊥
-unfolding storesNothing
-stored (all _ m e) = never_both m (Going start) (length header) (sym e ∙ first-answer)
+stored : {bytes : List ℕ} → HandsOut stores_nothing [] Fresh bytes → ⊥
+unfolding stores_nothing
+stored (all _ m e) = never_both m (Going start) (length header) (sym e ∙ first_answer)
 stored (piece _ m bytes e f h) =
-    let n : length header ≡ length bytes = ap (λ (s : Said). size s.length) (sym first-answer ∙ e) in
+    let n : length header ≡ length bytes = ap (λ (s : Said). size s.length) (sym first_answer ∙ e) in
     let some : 0 < length bytes = omega arith in
     let zeros : List ℕ = replicate 2048 0 in
     let ones : List ℕ = replicate 2048 1 in
@@ -50,27 +50,27 @@ stored (piece _ m bytes e f h) =
     ∙ ap (λ (l : List ℕ). get_or l 0 0) (f zeros (length-replicate {A = ℕ} 2048 0) ∙ sym (f ones (length-replicate {A = ℕ} 2048 1))) ∙ b in
     omega arith
 
-pub stores-nothing-lists-not : Lists storesNothing → ⊥
-stores-nothing-lists-not s = stored (s.whole [])
+pub stores_nothing_lists_not : Lists stores_nothing → ⊥
+stores_nothing_lists_not s = stored (s.whole [])
 
 -- ---- one that ends after the header
 
 abbrev stops : List ℕ → Listing → Said
-stops capture Fresh = nextSays capture Fresh
-stops capture (Going p) = wroteNothing Ended
-stops capture Ended = wroteNothing Ended
+stops capture Fresh = next_says capture Fresh
+stops capture (Going p) = wrote_nothing Ended
+stops capture Ended = wrote_nothing Ended
 
-pub endsEarly : Lister
-endsEarly = record { answers = stops; leaves = nextLeaves }
+pub ends_early : Lister
+ends_early = record { answers = stops; leaves = next_leaves }
 
-header-front : (old : List ℕ) → take (length header) (nextLeaves [] Fresh old) ≡ header
-unfolding nextLeaves nextChecks piece_of legal closingBits
-header-front old = take-append_seam header (drop (length header) old)
+header_front : (old : List ℕ) → take (length header) (next_leaves [] Fresh old) ≡ header
+unfolding next_leaves next_checks piece_of legal closing_bits
+header_front old = take-append_seam header (drop (length header) old)
 
-pub ends-early-lists-not : Lists endsEarly → ⊥
-unfolding endsEarly
-ends-early-lists-not s =
-    let only : HandsOut endsEarly [] Fresh (header ++ []) = piece Fresh (Going start) header first-answer (λ old h. header-front old) (all (Going start) Ended refl) in
-    let same = one-listing endsEarly [] only (s.whole []) ∙ empty-capture in
+pub ends_early_lists_not : Lists ends_early → ⊥
+unfolding ends_early
+ends_early_lists_not s =
+    let only : HandsOut ends_early [] Fresh (header ++ []) = piece Fresh (Going start) header first_answer (λ old h. header_front old) (all (Going start) Ended refl) in
+    let same = one_listing ends_early [] only (s.whole []) ∙ empty_capture in
     let bad : ◌≡◌ {A = ℕ} 19 27 = ap length same in
     omega arith

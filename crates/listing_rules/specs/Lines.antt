@@ -1,49 +1,49 @@
 -- Document 01, "Listing": the lines of a capture.
 use Rattle.std.specs.Prelude.{ℕ, ◌+◌, Bool, cond, List, [], ◌∷◌, ◌++◌, negsuc, length}
 use Rattle.std.proofs.Math.Option.{Option, none, some}
-use Rattle.character_rules.specs.Results.{readingsOf}
-use Rattle.capture_rules.specs.Capture.{charactersOf, legal}
+use Rattle.character_rules.specs.Results.{readings_of}
+use Rattle.capture_rules.specs.Capture.{characters_of, legal}
 use Rattle.packet_rules.specs.Answers.{Said, Start, Reply}
 use Rattle.packet_rules.specs.State.{fresh}
 use Rattle.packet_rules.specs.Line.{said_of}
-use Rattle.listing_rules.specs.Text.{decimal, line, placeWord, eventWord, detailWord, violationWord, startWord, end_word, lmpWord}
-use Rattle.listing_rules.specs.Text.{dataWord, priorityWord, goodWord, badWord, ackWord, nackWord, refusedWord}
+use Rattle.listing_rules.specs.Text.{decimal, line, place_word, event_word, detail_word, violation_word, start_word, end_word, lmp_word}
+use Rattle.listing_rules.specs.Text.{data_word, priority_word, good_word, bad_word, ack_word, nack_word, refused_word}
 
 -- ---- the event's word and its detail, as fields; none for nothing and for a byte
 
 -- the violation's number
-abbrev pub violationFields : Option ℕ → List (List ℕ)
-violationFields none = []
-violationFields (some n) = violationWord ∷ decimal n ∷ []
+abbrev pub violation_fields : Option ℕ → List (List ℕ)
+violation_fields none = []
+violation_fields (some n) = violation_word ∷ decimal n ∷ []
 
 -- a priority packet's start has a segment number, which is not shown
-abbrev pub kindWord : Option ℕ → List ℕ
-kindWord none = dataWord
-kindWord (some n) = priorityWord
+abbrev pub kind_word : Option ℕ → List ℕ
+kind_word none = data_word
+kind_word (some n) = priority_word
 
 -- "data" or "priority" with the channel
-abbrev pub startFields : Option Start → List (List ℕ)
-startFields none = []
-startFields (some s) = startWord ∷ kindWord s.segment ∷ decimal s.channel ∷ []
+abbrev pub start_fields : Option Start → List (List ℕ)
+start_fields none = []
+start_fields (some s) = start_word ∷ kind_word s.segment ∷ decimal s.channel ∷ []
 
-abbrev pub endFields : Option Bool → List (List ℕ)
-endFields none = []
-endFields (some bad) = end_word ∷ cond bad badWord goodWord ∷ []
+abbrev pub end_fields : Option Bool → List (List ℕ)
+end_fields none = []
+end_fields (some bad) = end_word ∷ cond bad bad_word good_word ∷ []
 
 -- "ACK" or "NACK" with the number
-abbrev pub lmpFields : Option Reply → List (List ℕ)
-lmpFields none = []
-lmpFields (some r) = lmpWord ∷ cond r.nack nackWord ackWord ∷ decimal r.number ∷ []
+abbrev pub lmp_fields : Option Reply → List (List ℕ)
+lmp_fields none = []
+lmp_fields (some r) = lmp_word ∷ cond r.nack nack_word ack_word ∷ decimal r.number ∷ []
 
 abbrev pub fields_of : Said → List (List ℕ)
-fields_of e = violationFields e.violation ++ (startFields e.start ++ (endFields e.end ++ lmpFields e.lmp))
+fields_of e = violation_fields e.violation ++ (start_fields e.start ++ (end_fields e.end ++ lmp_fields e.lmp))
 
 -- ---- the lines
 
 -- the index of the character that gave the event, and the event's fields; no line where there are none
-abbrev pub eventLine : ℕ → List (List ℕ) → List ℕ
-eventLine place [] = []
-eventLine place (field ∷ fields) = line (decimal place) (field ∷ fields)
+abbrev pub event_line : ℕ → List (List ℕ) → List ℕ
+event_line place [] = []
+event_line place (field ∷ fields) = line (decimal place) (field ∷ fields)
 
 abbrev pub listed : List (List ℕ) → ℕ
 listed [] = 0
@@ -52,29 +52,29 @@ listed (field ∷ fields) = 1
 -- what the reader said of the characters from a place on
 unfoldable pub lines_from : ℕ → List Said → List ℕ
 lines_from place [] = []
-lines_from place (e ∷ es) = eventLine place (fields_of e) ++ lines_from (place + 1) es
+lines_from place (e ∷ es) = event_line place (fields_of e) ++ lines_from (place + 1) es
 
-unfoldable pub eventsIn : List Said → ℕ
-eventsIn [] = 0
-eventsIn (e ∷ es) = listed (fields_of e) + eventsIn es
+unfoldable pub events_in : List Said → ℕ
+events_in [] = 0
+events_in (e ∷ es) = listed (fields_of e) + events_in es
 
 abbrev pub header : List ℕ
-header = line placeWord (eventWord ∷ detailWord ∷ [])
+header = line place_word (event_word ∷ detail_word ∷ [])
 
-abbrev pub endLine : ℕ → ℕ → List ℕ
-endLine characters events = line end_word (decimal characters ∷ decimal events ∷ [])
+abbrev pub end_line : ℕ → ℕ → List ℕ
+end_line characters events = line end_word (decimal characters ∷ decimal events ∷ [])
 
-abbrev pub refusedLine : List ℕ
-refusedLine = line refusedWord (decimal 8 ∷ [])
+abbrev pub refused_line : List ℕ
+refused_line = line refused_word (decimal 8 ∷ [])
 
 -- ---- THE LISTING
 
 -- what a fresh reader with S = 8 says of a capture, from −1
-abbrev pub saidOfCapture : List ℕ → List Said
-saidOfCapture capture = said_of (fresh 8) (readingsOf (charactersOf capture) (negsuc 0))
+abbrev pub said_of_capture : List ℕ → List Said
+said_of_capture capture = said_of (fresh 8) (readings_of (characters_of capture) (negsuc 0))
 
-unfoldable pub listingOf : List ℕ → List ℕ
-listingOf capture =
+unfoldable pub listing_of : List ℕ → List ℕ
+listing_of capture =
     cond (legal capture)
-    (header ++ (lines_from 0 (saidOfCapture capture) ++ endLine (length (charactersOf capture)) (eventsIn (saidOfCapture capture))))
-    refusedLine
+    (header ++ (lines_from 0 (said_of_capture capture) ++ end_line (length (characters_of capture)) (events_in (said_of_capture capture))))
+    refused_line

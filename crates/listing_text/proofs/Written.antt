@@ -10,15 +10,15 @@ use lib.Dec.{leb}
 use lib.ListN.{length, take, drop, length-append, drop_of_length-le}
 use lib.Seq.{drop-drop, paste, paste-zero, take_all, take_at, drop_at, length-take-le}
 use borrow.Author.Tests.{leb-true, leb-false}
-use Rattle.laws.proofs.Cases.{by-test}
-use Rattle.listing_text.specs.Writing.{withText, index_after, outputAfter, Wrote}
+use Rattle.laws.proofs.Cases.{by_test}
+use Rattle.listing_text.specs.Writing.{with_text, index_after, output_after, Wrote}
 
 pub wrote_none : (at : ℕ) (old : List ℕ) → Wrote at [] old old at
 wrote_none at old = record { size = sym (add-zero at); whole = paste-zero old at [] }
 
 -- the whole of a text, copied
-pub wrote-copy : (at : ℕ) (text old new : List ℕ) (i : ℕ) → i ≡ length text → new ≡ paste old at text i → Wrote at text old new (at + i)
-wrote-copy at text old new i e p =
+pub wrote_copy : (at : ℕ) (text old new : List ℕ) (i : ℕ) → i ≡ length text → new ≡ paste old at text i → Wrote at text old new (at + i)
+wrote_copy at text old new i e p =
     let all : take i text ≡ text = take_all i text (omega arith) in
     record {
       size = ap (λ (k : ℕ). at + k) e;
@@ -32,7 +32,7 @@ module _ (at : ℕ) (xs ys old : List ℕ) where
   end = at + length xs
 
   abbrev mid : List ℕ
-  mid = withText at xs old
+  mid = with_text at xs old
 
   front : at ≤ length old → take end mid ≡ take at old ++ xs
   front h = take_at (take at old ++ xs) (drop end old) end (length-append (take at old) xs ∙ ap (λ (k : ℕ). k + length xs) (length-take-le at old h))
@@ -51,16 +51,16 @@ module _ (at : ℕ) (xs ys old : List ℕ) where
 
   taken : take end mid ≡ take at old ++ xs
   taken =
-      by-test (leb at (length old)) (λ t. front (leb-true at (length old) t))
+      by_test (leb at (length old)) (λ t. front (leb-true at (length old) t))
       (λ f. let p = past (leb-false at (length old) f) in take_all end mid p.1 ∙ p.0)
 
   dropped : drop end mid ≡ drop end old
   dropped =
-      by-test (leb at (length old)) (λ t. back (leb-true at (length old) t))
+      by_test (leb at (length old)) (λ t. back (leb-true at (length old) t))
       (λ f. let p = past (leb-false at (length old) f) in drop_of_length-le mid {i = end} p.1 ∙ sym p.2)
 
-  text-more : withText end ys mid ≡ withText at (xs ++ ys) old
-  text-more =
+  text_more : with_text end ys mid ≡ with_text at (xs ++ ys) old
+  text_more =
       let n = length ys in
       let size : end + n ≡ at + length (xs ++ ys) = add_assoc at (length xs) n ∙ ap (λ (k : ℕ). at + k) (sym (length-append xs ys)) in
       let rest : drop (end + n) mid ≡ drop (at + length (xs ++ ys)) old =
@@ -68,17 +68,17 @@ module _ (at : ℕ) (xs ys old : List ℕ) where
       ap₂ (λ (l r : List ℕ). l ++ ys ++ r) taken rest
       ∙ ap (λ (l : List ℕ). l ++ drop (at + length (xs ++ ys)) old) (append_assoc (take at old) xs ys)
 
-pub wrote-more : {at b c : ℕ} {xs ys old mid new : List ℕ} → Wrote at xs old mid b → Wrote b ys mid new c → Wrote at (xs ++ ys) old new c
-wrote-more {at} {b} {c} {xs} {ys} {old} {mid} {new} v w =
+pub wrote_more : {at b c : ℕ} {xs ys old mid new : List ℕ} → Wrote at xs old mid b → Wrote b ys mid new c → Wrote at (xs ++ ys) old new c
+wrote_more {at} {b} {c} {xs} {ys} {old} {mid} {new} v w =
     let n = length ys in
     record {
       size = w.size ∙ ap (λ (k : ℕ). k + n) v.size ∙ add_assoc at (length xs) n ∙ ap (λ (k : ℕ). at + k) (sym (length-append xs ys));
-      whole = w.whole ∙ ap₂ (λ (k : ℕ) (l : List ℕ). withText k ys l) v.size v.whole ∙ text-more at xs ys old;
+      whole = w.whole ∙ ap₂ (λ (k : ℕ) (l : List ℕ). with_text k ys l) v.size v.whole ∙ text_more at xs ys old;
     }
 
 -- from the front on
-pub wrote-whole : {xs old new : List ℕ} {b : ℕ} → Wrote 0 xs old new b → (b ≡ length xs) × (new ≡ xs ++ drop (length xs) old)
-wrote-whole {xs} {old} {new} {b} w =
+pub wrote_whole : {xs old new : List ℕ} {b : ℕ} → Wrote 0 xs old new b → (b ≡ length xs) × (new ≡ xs ++ drop (length xs) old)
+wrote_whole {xs} {old} {new} {b} w =
     let n : 0 + length xs ≡ length xs = omega arith in
     (w.size ∙ n, w.whole ∙ ap (λ (k : ℕ). xs ++ drop k old) n)
 
@@ -86,14 +86,14 @@ wrote-whole {xs} {old} {new} {b} w =
 
 module _ (room : Bool) (at : ℕ) (text old new : List ℕ) (after : ℕ) where
   abbrev Comes : Type 0
-  Comes = (after ≡ index_after room at text) × (new ≡ outputAfter room at text old)
+  Comes = (after ≡ index_after room at text) × (new ≡ output_after room at text old)
 
-  pub put-done : room ≡ true → Wrote at text old new after → Comes
-  put-done e w = (w.size ∙ sym (rw e), w.whole ∙ sym (rw e))
+  pub put_done : room ≡ true → Wrote at text old new after → Comes
+  put_done e w = (w.size ∙ sym (rw e), w.whole ∙ sym (rw e))
 
   -- and back, for a caller that has room
-  pub put-wrote : room ≡ true → Comes → Wrote at text old new after
-  put-wrote e d = record { size = d.0 ∙ rw e; whole = d.1 ∙ rw e }
+  pub put_wrote : room ≡ true → Comes → Wrote at text old new after
+  put_wrote e d = record { size = d.0 ∙ rw e; whole = d.1 ∙ rw e }
 
-pub put-nothing : (room : Bool) (at : ℕ) (text old : List ℕ) → room ≡ false → (at ≡ index_after room at text) × (old ≡ outputAfter room at text old)
-put-nothing room at text old e = (sym (rw e), sym (rw e))
+pub put_nothing : (room : Bool) (at : ℕ) (text old : List ℕ) → room ≡ false → (at ≡ index_after room at text) × (old ≡ output_after room at text old)
+put_nothing room at text old e = (sym (rw e), sym (rw e))

@@ -1,7 +1,7 @@
 // Text put into a piece of a listing. The answer is the index after it; where there is no room, the same index.
 ghost use Rattle.std.specs.Prelude.{◌≡◌, ◌+◌, ◌≤◌, length};
-ghost use Rattle.listing_rules.specs.Text.{fiveDigits, leading_zeros, decimal};
-ghost use Rattle.listing_text.specs.Writing.{wordedLine, numberedLine, hasRoom, frontRoom, wordedRoom, numberedRoom, index_after, outputAfter, Wrote};
+ghost use Rattle.listing_rules.specs.Text.{five_digits, leading_zeros, decimal};
+ghost use Rattle.listing_text.specs.Writing.{worded_line, numbered_line, has_room, front_room, worded_room, numbered_room, index_after, output_after, Wrote};
 
 fn put(text: &[u8], at: usize, out: &mut [u8]) -> usize
     requires { at + length text.now ≤ length out.old }
@@ -22,7 +22,7 @@ fn digit(n: usize) -> u8
 }
 
 fn five_digits(n: usize) -> [u8; 5]
-    ensures { result ≡ fiveDigits n }
+    ensures { result ≡ five_digits n }
 {
     [
         digit(n / 10000),
@@ -63,7 +63,7 @@ fn put_number(n: usize, at: usize, out: &mut [u8]) -> usize
 // Whether a text with some bytes more has room from an index on.
 fn has_room(at: usize, length: usize, more: usize) -> bool
     requires { more ≤ 2048 }
-    ensures { result ≡ hasRoom at (length + more) }
+    ensures { result ≡ has_room at (length + more) }
 {
     let limit = 2048 - more;
     if limit < length {
@@ -77,8 +77,8 @@ fn has_room(at: usize, length: usize, more: usize) -> bool
 
 // A text at the front.
 pub fn put_front(text: &[u8], out: &mut [u8; 2048]) -> usize
-    ensures { (result ≡ index_after (frontRoom text.now) 0 text.now)
-        × (out.new ≡ outputAfter (frontRoom text.now) 0 text.now out.old) }
+    ensures { (result ≡ index_after (front_room text.now) 0 text.now)
+        × (out.new ≡ output_after (front_room text.now) 0 text.now out.old) }
 {
     if 2048 < text.len() {
         return 0;
@@ -88,8 +88,8 @@ pub fn put_front(text: &[u8], out: &mut [u8; 2048]) -> usize
 
 // A line that ends in words: the place, then the words with the space before them and the line feed.
 pub fn put_worded(place: usize, words: &[u8], at: usize, out: &mut [u8; 2048]) -> usize
-    ensures { (result ≡ index_after (wordedRoom at words.now) at (wordedLine place words.now))
-        × (out.new ≡ outputAfter (wordedRoom at words.now) at (wordedLine place words.now) out.old) }
+    ensures { (result ≡ index_after (worded_room at words.now) at (worded_line place words.now))
+        × (out.new ≡ output_after (worded_room at words.now) at (worded_line place words.now) out.old) }
 {
     if !has_room(at, words.len(), 5) {
         return at;
@@ -100,8 +100,8 @@ pub fn put_worded(place: usize, words: &[u8], at: usize, out: &mut [u8; 2048]) -
 
 // A line that ends in a number: the place, the words with the spaces about them, the number.
 pub fn put_numbered(place: usize, words: &[u8], n: usize, at: usize, out: &mut [u8; 2048]) -> usize
-    ensures { (result ≡ index_after (numberedRoom at words.now) at (numberedLine place words.now n))
-        × (out.new ≡ outputAfter (numberedRoom at words.now) at (numberedLine place words.now n) out.old) }
+    ensures { (result ≡ index_after (numbered_room at words.now) at (numbered_line place words.now n))
+        × (out.new ≡ output_after (numbered_room at words.now) at (numbered_line place words.now n) out.old) }
 {
     if !has_room(at, words.len(), 11) {
         return at;

@@ -1,7 +1,7 @@
 // The answers of a step: an event, and the state after it; what is due after a symbol that opens.
 ghost use Rattle.std.specs.Prelude.{◌≡◌};
-ghost use Rattle.packet_rules.specs.Step.{dueAfter};
-ghost use Rattle.packet_answers.specs.Answers.{moved_to, violatedTo, closedTo, startedData, startedPriority};
+ghost use Rattle.packet_rules.specs.Step.{due_after};
+ghost use Rattle.packet_answers.specs.Answers.{moved_to, violated_to, closed_to, started_data, started_priority};
 
 use packet_rules::{DataPacket, Due, Event, Opener, Phase, PriorityPacket, Reader, Step};
 
@@ -21,7 +21,7 @@ pub fn moved(event: Event, phase: Phase, r: Reader) -> Step
 
 // A violation that closes all open packets.
 pub fn violated(n: u8, r: Reader) -> Step
-    ensures { result ≡ violatedTo n r }
+    ensures { result ≡ violated_to n r }
 {
     let event = Event::Violation(n);
     let reader = Reader {
@@ -35,7 +35,7 @@ pub fn violated(n: u8, r: Reader) -> Step
 
 // The packet to which an end belongs is closed.
 pub fn closed(event: Event, r: Reader, p: PriorityPacket) -> Step
-    ensures { result ≡ closedTo event r p }
+    ensures { result ≡ closed_to event r p }
 {
     let size = r.size;
     let packet = r.packet;
@@ -62,7 +62,7 @@ pub fn closed(event: Event, r: Reader, p: PriorityPacket) -> Step
 }
 
 pub fn started_data(channel: u8, r: Reader) -> Step
-    ensures { result ≡ startedData channel r }
+    ensures { result ≡ started_data channel r }
 {
     let packet = DataPacket::InData {
         channel,
@@ -83,7 +83,7 @@ pub fn started_data(channel: u8, r: Reader) -> Step
 }
 
 pub fn started_priority(opening: u8, r: Reader) -> Step
-    ensures { result ≡ startedPriority opening r }
+    ensures { result ≡ started_priority opening r }
 {
     let priority = PriorityPacket::InPriority {
         opening,
@@ -107,7 +107,7 @@ pub fn started_priority(opening: u8, r: Reader) -> Step
 }
 
 pub fn due_after(o: Opener) -> Due
-    ensures { result ≡ dueAfter o }
+    ensures { result ≡ due_after o }
 {
     match o {
         Opener::Sdp => Due::Channel,

@@ -1,12 +1,12 @@
 // How a packet ends at its second CRC byte.
 ghost use Rattle.std.specs.Prelude.{◌≡◌};
-ghost use Rattle.packet_rules.specs.Violations.{rightCrc};
+ghost use Rattle.packet_rules.specs.Violations.{right_crc};
 ghost use Rattle.packet_ends.specs.Ends.{end_of};
 
 use packet_rules::{DataPacket, Event, PriorityPacket};
 
 fn is_right_crc(register: u16, a: u8, b: u8) -> bool
-    ensures { result ≡ rightCrc register a b }
+    ensures { result ≡ right_crc register a b }
 {
     let check = crc::check_bytes(register);
     if a == check[0] { b == check[1] } else { false }

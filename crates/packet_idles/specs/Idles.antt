@@ -6,23 +6,23 @@ use Rattle.packet_rules.specs.declared.Phase.TheVariants.{Free, Next, Idles, Dro
 use Rattle.packet_rules.specs.declared.Event.TheVariants.{Nothing}
 use Rattle.packet_rules.specs.declared.Reader.{Reader}
 use Rattle.packet_rules.specs.declared.Step.{Step}
-use Rattle.packet_rules.specs.Step.{dueAfter}
-use Rattle.packet_answers.specs.Answers.{moved_to, violatedTo}
+use Rattle.packet_rules.specs.Step.{due_after}
+use Rattle.packet_answers.specs.Answers.{moved_to, violated_to}
 
-unfoldable pub idleOf : ℕ → Kind → Reader → Step
-idleOf i (Data b) r = violatedTo 4 r
-idleOf i Idl r = moved_to Nothing (cond (leb i 1) Free (Idles (i - 1))) r
-idleOf i Com r = violatedTo 4 r
-idleOf i (Opens o) r = violatedTo 4 r
-idleOf i (Closes bad) r = violatedTo 4 r
-idleOf i NoPlace r = violatedTo 4 r
-idleOf i Unsupported r = violatedTo 3 r
+unfoldable pub idle_of : ℕ → Kind → Reader → Step
+idle_of i (Data b) r = violated_to 4 r
+idle_of i Idl r = moved_to Nothing (cond (leb i 1) Free (Idles (i - 1))) r
+idle_of i Com r = violated_to 4 r
+idle_of i (Opens o) r = violated_to 4 r
+idle_of i (Closes bad) r = violated_to 4 r
+idle_of i NoPlace r = violated_to 4 r
+idle_of i Unsupported r = violated_to 3 r
 
-unfoldable pub dropOf : Kind → Reader → Step
-dropOf (Data b) r = moved_to Nothing Dropping r
-dropOf Idl r = moved_to Nothing Dropping r
-dropOf Com r = moved_to Nothing Dropping r
-dropOf (Opens o) r = moved_to Nothing (Next (dueAfter o)) r
-dropOf (Closes bad) r = moved_to Nothing Dropping r
-dropOf NoPlace r = moved_to Nothing Dropping r
-dropOf Unsupported r = moved_to Nothing Dropping r
+unfoldable pub drop_of : Kind → Reader → Step
+drop_of (Data b) r = moved_to Nothing Dropping r
+drop_of Idl r = moved_to Nothing Dropping r
+drop_of Com r = moved_to Nothing Dropping r
+drop_of (Opens o) r = moved_to Nothing (Next (due_after o)) r
+drop_of (Closes bad) r = moved_to Nothing Dropping r
+drop_of NoPlace r = moved_to Nothing Dropping r
+drop_of Unsupported r = moved_to Nothing Dropping r

@@ -1,12 +1,12 @@
 // A symbol after COM, and while dropping.
 ghost use Rattle.std.specs.Prelude.{◌≡◌};
-ghost use Rattle.packet_idles.specs.Idles.{idleOf, dropOf};
+ghost use Rattle.packet_idles.specs.Idles.{idle_of, drop_of};
 
 use packet_rules::{Event, Kind, Phase, Reader, Step};
 
 // After COM, n IDL are due.
 pub fn in_idles(r: Reader, n: u8, k: Kind) -> Step
-    ensures { result ≡ idleOf n k r }
+    ensures { result ≡ idle_of n k r }
 {
     match k {
         Kind::Data(_) => packet_answers::violated(4, r),
@@ -27,7 +27,7 @@ pub fn in_idles(r: Reader, n: u8, k: Kind) -> Step
 
 // Only a symbol that opens is seen.
 pub fn dropping(r: Reader, k: Kind) -> Step
-    ensures { result ≡ dropOf k r }
+    ensures { result ≡ drop_of k r }
 {
     match k {
         Kind::Data(_) => packet_answers::moved(Event::Nothing, Phase::Dropping, r),

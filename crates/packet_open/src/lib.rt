@@ -1,6 +1,6 @@
 // What is open in a state.
 ghost use Rattle.std.specs.Prelude.{◌≡◌};
-ghost use Rattle.packet_rules.specs.State.{noPriority, outside, hasByte, openingByte, registerIn};
+ghost use Rattle.packet_rules.specs.State.{no_priority, outside, has_byte, opening_byte, register_in};
 
 use packet_rules::{DataPacket, PriorityPacket};
 
@@ -17,7 +17,7 @@ pub fn is_outside(d: DataPacket, p: PriorityPacket) -> bool
 }
 
 pub fn has_no_priority(p: PriorityPacket) -> bool
-    ensures { result ≡ noPriority p }
+    ensures { result ≡ no_priority p }
 {
     match p {
         PriorityPacket::InPriority { .. } => false,
@@ -26,7 +26,7 @@ pub fn has_no_priority(p: PriorityPacket) -> bool
 }
 
 pub fn has_byte(d: DataPacket, p: PriorityPacket) -> bool
-    ensures { result ≡ hasByte d p }
+    ensures { result ≡ has_byte d p }
 {
     match p {
         PriorityPacket::InPriority { count, .. } => 0 < count,
@@ -38,7 +38,7 @@ pub fn has_byte(d: DataPacket, p: PriorityPacket) -> bool
 }
 
 pub fn opening_byte(d: DataPacket, p: PriorityPacket) -> u8
-    ensures { result ≡ openingByte d p }
+    ensures { result ≡ opening_byte d p }
 {
     match p {
         PriorityPacket::InPriority { opening, .. } => opening,
@@ -50,7 +50,7 @@ pub fn opening_byte(d: DataPacket, p: PriorityPacket) -> u8
 }
 
 pub fn register_in(d: DataPacket, p: PriorityPacket) -> u16
-    ensures { result ≡ registerIn d p }
+    ensures { result ≡ register_in d p }
 {
     match p {
         PriorityPacket::InPriority { register, .. } => register,

@@ -7,11 +7,11 @@ use borrow.Author.Tests.{eqb-true, ltb-true}
 use lib.Bits.{bit_xor}
 use lib.Dec.{eqb, ltb, leb}
 use lib.IntN.{ℤ}
-use Rattle.symbol.specs.Symbols.{isSymbol}
+use Rattle.symbol.specs.Symbols.{is_symbol}
 use Rattle.symbol.specs.declared.Symbol.{Symbol}
 use Rattle.character_rules.specs.declared.Decoded.{Decoded}
 use Rattle.character_rules.specs.declared.Decoded.TheVariants.{Clean, WrongDisparity, Invalid, Refused as NotRead}
-use Rattle.character_rules.specs.Answers.{readingSays, clean, wrongDisparity, invalid}
+use Rattle.character_rules.specs.Answers.{reading_says, clean, wrong_disparity, invalid}
 use Rattle.packet_rules.specs.declared.Opener.{Opener}
 use Rattle.packet_rules.specs.declared.Opener.TheVariants.{Sdp, Spp, Slp}
 use Rattle.packet_rules.specs.declared.Kind.{Kind}
@@ -26,69 +26,69 @@ use Rattle.packet_rules.specs.declared.Phase.{Phase}
 use Rattle.packet_rules.specs.declared.Phase.TheVariants.{Free, Next, Idles, Dropping}
 use Rattle.packet_rules.specs.declared.Reader.{Reader}
 use Rattle.packet_rules.specs.declared.Step.{Step}
-use Rattle.packet_rules.specs.Answers.{Said, eventSays, stepSays}
-use Rattle.packet_rules.specs.State.{outside, hasByte, openingByte, registerIn, wellFormed}
+use Rattle.packet_rules.specs.Answers.{Said, event_says, step_says}
+use Rattle.packet_rules.specs.State.{outside, has_byte, opening_byte, register_in, well_formed}
 use Rattle.packet_rules.specs.Symbols.{kind_of}
-use Rattle.packet_rules.specs.Violations.{rightCrc, violationOf}
-use Rattle.packet_rules.specs.Step.{lmpSaid, broken, dropped, read_of, step_of}
-use Rattle.packet_rules.specs.Line.{isReply}
+use Rattle.packet_rules.specs.Violations.{right_crc, violation_of}
+use Rattle.packet_rules.specs.Step.{lmp_said, broken, dropped, read_of, step_of}
+use Rattle.packet_rules.specs.Line.{is_reply}
 use Rattle.packet_rules.proofs.Steps.{st}
-use Rattle.packet_rules.proofs.Legal.{reply-said, other-said}
-use Rattle.packet_turns.specs.Turns.{mayStart, freeOf}
-use Rattle.packet_sequences.specs.Sequences.{lmpOf, dueOf, seqOf}
-use Rattle.packet_idles.specs.Idles.{idleOf, dropOf}
-use Rattle.packet_reader.specs.Classes.{class_of, cleanOf, spoiledOf, refusedTo, advanceOf}
+use Rattle.packet_rules.proofs.Legal.{reply_said, other_said}
+use Rattle.packet_turns.specs.Turns.{may_start, free_of}
+use Rattle.packet_sequences.specs.Sequences.{lmp_of, due_of, seq_of}
+use Rattle.packet_idles.specs.Idles.{idle_of, drop_of}
+use Rattle.packet_reader.specs.Classes.{class_of, clean_of, spoiled_of, refused_to, advance_of}
 
 -- ---- what a right LMP gives
 
-lmp-agrees : (t n : ℕ) → eventSays (lmpOf t n) ≡ lmpSaid t n
-lmp-agrees t n = by (ltb n 16) (eqb t 0x20) (eqb t 0x21) refl refl refl
+lmp_agrees : (t n : ℕ) → event_says (lmp_of t n) ≡ lmp_said t n
+lmp_agrees t n = by (ltb n 16) (eqb t 0x20) (eqb t 0x21) refl refl refl
   where
-    by : (x y z : Bool) → ltb n 16 ≡ x → eqb t 0x20 ≡ y → eqb t 0x21 ≡ z → eventSays (lmpOf t n) ≡ lmpSaid t n
-    by false y z e f g = simp e (sym (other-said t n (no y z f g)))
+    by : (x y z : Bool) → ltb n 16 ≡ x → eqb t 0x20 ≡ y → eqb t 0x21 ≡ z → event_says (lmp_of t n) ≡ lmp_said t n
+    by false y z e f g = simp e (sym (other_said t n (no y z f g)))
       where
-        no : (y z : Bool) → eqb t 0x20 ≡ y → eqb t 0x21 ≡ z → isReply t n ≡ false
+        no : (y z : Bool) → eqb t 0x20 ≡ y → eqb t 0x21 ≡ z → is_reply t n ≡ false
         no true z f g = simp (f, e)
         no false true f g = simp (f, g, e)
         no false false f g = simp (f, g)
-    by true true z e f g = simp (e, f) (sym (ap (λ (x : ℕ). lmpSaid x n) (eqb-true t 0x20 f) ∙ reply-said false n (ltb-true n 16 e)))
-    by true false true e f g = simp (e, f, g) (sym (ap (λ (x : ℕ). lmpSaid x n) (eqb-true t 0x21 g) ∙ reply-said true n (ltb-true n 16 e)))
-    by true false false e f g = simp (e, f, g) (sym (other-said t n (simp (f, g))))
+    by true true z e f g = simp (e, f) (sym (ap (λ (x : ℕ). lmp_said x n) (eqb-true t 0x20 f) ∙ reply_said false n (ltb-true n 16 e)))
+    by true false true e f g = simp (e, f, g) (sym (ap (λ (x : ℕ). lmp_said x n) (eqb-true t 0x21 g) ∙ reply_said true n (ltb-true n 16 e)))
+    by true false false e f g = simp (e, f, g) (sym (other_said t n (simp (f, g))))
 
 module _ (s : ℕ) (d : DataPacket) (p : PriorityPacket) (x : Symbol) (e : ℤ) where
   abbrev Agrees : Phase → Kind → Step → Type 0
-  Agrees w k a = stepSays a ≡ read_of (st s d p w) (clean x e) k
+  Agrees w k a = step_says a ≡ read_of (st s d p w) (clean x e) k
 
   -- ---- where no sequence is begun
 
-  starts : (o : Opener) (t : Bool) → mayStart o d p ≡ t → Agrees Free (Opens o) (freeOf (Opens o) (st s d p Free))
-  unfolding freeOf read_of violationOf broken
+  starts : (o : Opener) (t : Bool) → may_start o d p ≡ t → Agrees Free (Opens o) (free_of (Opens o) (st s d p Free))
+  unfolding free_of read_of violation_of broken
   starts Sdp true h = simp h
   starts Sdp false h = simp h
   starts Spp true h = simp h
   starts Spp false h = simp h
   starts Slp t h = refl
 
-  ends : (bad : Bool) (t u : Bool) → outside d p ≡ t → hasByte d p ≡ u → Agrees Free (Closes bad) (freeOf (Closes bad) (st s d p Free))
-  unfolding freeOf read_of violationOf broken
+  ends : (bad : Bool) (t u : Bool) → outside d p ≡ t → has_byte d p ≡ u → Agrees Free (Closes bad) (free_of (Closes bad) (st s d p Free))
+  unfolding free_of read_of violation_of broken
   ends bad true u o h = simp o
   ends bad false true o h = simp (o, h)
   ends bad false false o h = simp (o, h)
 
   -- ---- a begun sequence
 
-  closings : (bad : Bool) (b : ℕ) (t : Bool) → eqb b (openingByte d p) ≡ t → Agrees (Next (Closing bad)) (Data b) (dueOf (Closing bad) b (st s d p (Next (Closing bad))))
-  unfolding dueOf read_of violationOf broken
+  closings : (bad : Bool) (b : ℕ) (t : Bool) → eqb b (opening_byte d p) ≡ t → Agrees (Next (Closing bad)) (Data b) (due_of (Closing bad) b (st s d p (Next (Closing bad))))
+  unfolding due_of read_of violation_of broken
   closings bad b true h = simp h
   closings bad b false h = simp h
 
-  lmps : (t n b : ℕ) (u : Bool) → eqb b (bit_xor t n) ≡ u → Agrees (Next (LmpCheck t n)) (Data b) (dueOf (LmpCheck t n) b (st s d p (Next (LmpCheck t n))))
-  unfolding dueOf read_of violationOf broken
-  lmps t n b true h = simp h (ap (λ (y : Said). record { said = y; reader = st s d p Free }) (lmp-agrees t n))
+  lmps : (t n b : ℕ) (u : Bool) → eqb b (bit_xor t n) ≡ u → Agrees (Next (LmpCheck t n)) (Data b) (due_of (LmpCheck t n) b (st s d p (Next (LmpCheck t n))))
+  unfolding due_of read_of violation_of broken
+  lmps t n b true h = simp h (ap (λ (y : Said). record { said = y; reader = st s d p Free }) (lmp_agrees t n))
   lmps t n b false h = simp h
 
-  idles : (n : ℕ) (k : Kind) → Agrees (Idles n) k (idleOf n k (st s d p (Idles n)))
-  unfolding idleOf read_of violationOf broken
+  idles : (n : ℕ) (k : Kind) → Agrees (Idles n) k (idle_of n k (st s d p (Idles n)))
+  unfolding idle_of read_of violation_of broken
   idles n (Data b) = refl
   idles n Idl = refl
   idles n Com = refl
@@ -97,8 +97,8 @@ module _ (s : ℕ) (d : DataPacket) (p : PriorityPacket) (x : Symbol) (e : ℤ) 
   idles n NoPlace = refl
   idles n Unsupported = refl
 
-  drops : (k : Kind) → Agrees Dropping k (dropOf k (st s d p Dropping))
-  unfolding dropOf read_of dropped
+  drops : (k : Kind) → Agrees Dropping k (drop_of k (st s d p Dropping))
+  unfolding drop_of read_of dropped
   drops (Data b) = refl
   drops Idl = refl
   drops Com = refl
@@ -109,15 +109,15 @@ module _ (s : ℕ) (d : DataPacket) (p : PriorityPacket) (x : Symbol) (e : ℤ) 
 
   -- ---- a result that is not clean
 
-  wrongs : (w : Phase) (k : Kind) → stepSays (spoiledOf 2 w (st s d p w)) ≡ read_of (st s d p w) (wrongDisparity x e) k
-  unfolding read_of violationOf broken dropped
+  wrongs : (w : Phase) (k : Kind) → step_says (spoiled_of 2 w (st s d p w)) ≡ read_of (st s d p w) (wrong_disparity x e) k
+  unfolding read_of violation_of broken dropped
   wrongs Free k = refl
   wrongs (Next due) k = refl
   wrongs (Idles n) k = refl
   wrongs Dropping k = refl
 
-  invalids : (w : Phase) → stepSays (spoiledOf 1 w (st s d p w)) ≡ read_of (st s d p w) (invalid e) NoPlace
-  unfolding read_of violationOf broken dropped
+  invalids : (w : Phase) → step_says (spoiled_of 1 w (st s d p w)) ≡ read_of (st s d p w) (invalid e) NoPlace
+  unfolding read_of violation_of broken dropped
   invalids Free = refl
   invalids (Next due) = refl
   invalids (Idles n) = refl
@@ -125,53 +125,53 @@ module _ (s : ℕ) (d : DataPacket) (p : PriorityPacket) (x : Symbol) (e : ℤ) 
 
 module _ (s : ℕ) (x : Symbol) (e : ℤ) where
   -- a byte goes to the packet it belongs to
-  bytes : (d : DataPacket) (p : PriorityPacket) (b : ℕ) → Agrees s d p x e Free (Data b) (freeOf (Data b) (st s d p Free))
-  unfolding freeOf read_of violationOf broken
+  bytes : (d : DataPacket) (p : PriorityPacket) (b : ℕ) → Agrees s d p x e Free (Data b) (free_of (Data b) (st s d p Free))
+  unfolding free_of read_of violation_of broken
   bytes d (InPriority o n c) b = by (leb s n) refl
     where
-      by : (t : Bool) → leb s n ≡ t → Agrees s d (InPriority o n c) x e Free (Data b) (freeOf (Data b) (st s d (InPriority o n c) Free))
+      by : (t : Bool) → leb s n ≡ t → Agrees s d (InPriority o n c) x e Free (Data b) (free_of (Data b) (st s d (InPriority o n c) Free))
       by true h = simp h
       by false h = simp h
   bytes (InData h y c) NoPriority b = refl
   bytes NoData NoPriority b = by (eqb b 0) refl
     where
-      by : (t : Bool) → eqb b 0 ≡ t → Agrees s NoData NoPriority x e Free (Data b) (freeOf (Data b) (st s NoData NoPriority Free))
+      by : (t : Bool) → eqb b 0 ≡ t → Agrees s NoData NoPriority x e Free (Data b) (free_of (Data b) (st s NoData NoPriority Free))
       by true h = simp h
       by false h = simp h
 
   -- and so do an end and its CRC
-  crcs : (d : DataPacket) (p : PriorityPacket) (bad : Bool) (a b : ℕ) (t : Bool) → rightCrc (registerIn d p) a b ≡ t
-      → Agrees s d p x e (Next (SecondCrc bad a)) (Data b) (dueOf (SecondCrc bad a) b (st s d p (Next (SecondCrc bad a))))
-  unfolding dueOf read_of violationOf broken
+  crcs : (d : DataPacket) (p : PriorityPacket) (bad : Bool) (a b : ℕ) (t : Bool) → right_crc (register_in d p) a b ≡ t
+      → Agrees s d p x e (Next (SecondCrc bad a)) (Data b) (due_of (SecondCrc bad a) b (st s d p (Next (SecondCrc bad a))))
+  unfolding due_of read_of violation_of broken
   crcs d (InPriority o n c) bad a b true h = simp h
   crcs d (InPriority o n c) bad a b false h = simp h
   crcs d NoPriority bad a b true h = simp h
   crcs d NoPriority bad a b false h = simp h
 
   module _ (d : DataPacket) (p : PriorityPacket) where
-    frees : (k : Kind) → Agrees s d p x e Free k (freeOf k (st s d p Free))
-    unfolding freeOf read_of violationOf broken
+    frees : (k : Kind) → Agrees s d p x e Free k (free_of k (st s d p Free))
+    unfolding free_of read_of violation_of broken
     frees (Data b) = bytes d p b
     frees Idl = refl
     frees Com = refl
-    frees (Opens o) = starts s d p x e o (mayStart o d p) refl
-    frees (Closes bad) = ends s d p x e bad (outside d p) (hasByte d p) refl refl
+    frees (Opens o) = starts s d p x e o (may_start o d p) refl
+    frees (Closes bad) = ends s d p x e bad (outside d p) (has_byte d p) refl refl
     frees NoPlace = refl
     frees Unsupported = refl
 
-    dues : (due : Due) (b : ℕ) → Agrees s d p x e (Next due) (Data b) (dueOf due b (st s d p (Next due)))
-    unfolding dueOf read_of violationOf broken
+    dues : (due : Due) (b : ℕ) → Agrees s d p x e (Next due) (Data b) (due_of due b (st s d p (Next due)))
+    unfolding due_of read_of violation_of broken
     dues Channel b = refl
     dues Opening b = refl
-    dues (Closing bad) b = closings s d p x e bad b (eqb b (openingByte d p)) refl
+    dues (Closing bad) b = closings s d p x e bad b (eqb b (opening_byte d p)) refl
     dues (FirstCrc bad) b = refl
-    dues (SecondCrc bad a) b = crcs d p bad a b (rightCrc (registerIn d p) a b) refl
+    dues (SecondCrc bad a) b = crcs d p bad a b (right_crc (register_in d p) a b) refl
     dues LmpType b = refl
     dues (LmpNumber t) b = refl
     dues (LmpCheck t n) b = lmps s d p x e t n b (eqb b (bit_xor t n)) refl
 
-    sequences : (due : Due) (k : Kind) → Agrees s d p x e (Next due) k (seqOf due k (st s d p (Next due)))
-    unfolding seqOf read_of violationOf broken
+    sequences : (due : Due) (k : Kind) → Agrees s d p x e (Next due) k (seq_of due k (st s d p (Next due)))
+    unfolding seq_of read_of violation_of broken
     sequences due (Data b) = dues due b
     sequences due Idl = refl
     sequences due Com = refl
@@ -180,41 +180,41 @@ module _ (s : ℕ) (x : Symbol) (e : ℤ) where
     sequences due NoPlace = refl
     sequences due Unsupported = refl
 
-    cleans : (w : Phase) (k : Kind) → Agrees s d p x e w k (cleanOf w k (st s d p w))
-    unfolding cleanOf
+    cleans : (w : Phase) (k : Kind) → Agrees s d p x e w k (clean_of w k (st s d p w))
+    unfolding clean_of
     cleans Free k = frees k
     cleans (Next due) k = sequences due k
     cleans (Idles n) k = idles s d p x e n k
     cleans Dropping k = drops s d p x e k
 
 -- THE LAW: in a state that keeps the rule
-pub agree : (r : Reader) (g : Decoded) → wellFormed r ≡ true → stepSays (advanceOf r g) ≡ step_of r (readingSays g)
-unfolding advanceOf step_of class_of
-agree r (Clean x e) ok = by (isSymbol x) refl
+pub agree : (r : Reader) (g : Decoded) → well_formed r ≡ true → step_says (advance_of r g) ≡ step_of r (reading_says g)
+unfolding advance_of step_of class_of
+agree r (Clean x e) ok = by (is_symbol x) refl
   where
-    by : (t : Bool) → isSymbol x ≡ t → stepSays (advanceOf r (Clean x e)) ≡ step_of r (readingSays (Clean x e))
+    by : (t : Bool) → is_symbol x ≡ t → step_says (advance_of r (Clean x e)) ≡ step_of r (reading_says (Clean x e))
     by true h = simp (ok, h) (cleans r.size x e r.packet r.priority r.phase (kind_of x))
     by false h = simp (ok, h)
-agree r (WrongDisparity x e) ok = by (isSymbol x) refl
+agree r (WrongDisparity x e) ok = by (is_symbol x) refl
   where
-    by : (t : Bool) → isSymbol x ≡ t → stepSays (advanceOf r (WrongDisparity x e)) ≡ step_of r (readingSays (WrongDisparity x e))
+    by : (t : Bool) → is_symbol x ≡ t → step_says (advance_of r (WrongDisparity x e)) ≡ step_of r (reading_says (WrongDisparity x e))
     by true h = simp (ok, h) (wrongs r.size r.packet r.priority x e r.phase (kind_of x))
     by false h = simp (ok, h)
 agree r (Invalid e) ok = simp ok (invalids r.size r.packet r.priority (record { byte = 0; control = false }) e r.phase)
 agree r (NotRead n) ok = refl
 
 -- a state that breaks the rule is refused
-pub ill-formed : (r : Reader) (g : Decoded) → wellFormed r ≡ false → stepSays (refusedTo 1 r) ≡ step_of r (readingSays g)
+pub ill_formed : (r : Reader) (g : Decoded) → well_formed r ≡ false → step_says (refused_to 1 r) ≡ step_of r (reading_says g)
 unfolding step_of
-ill-formed r (Clean x e) h = by (isSymbol x) refl
+ill_formed r (Clean x e) h = by (is_symbol x) refl
   where
-    by : (t : Bool) → isSymbol x ≡ t → stepSays (refusedTo 1 r) ≡ step_of r (readingSays (Clean x e))
+    by : (t : Bool) → is_symbol x ≡ t → step_says (refused_to 1 r) ≡ step_of r (reading_says (Clean x e))
     by true q = simp (h, q)
     by false q = simp q
-ill-formed r (WrongDisparity x e) h = by (isSymbol x) refl
+ill_formed r (WrongDisparity x e) h = by (is_symbol x) refl
   where
-    by : (t : Bool) → isSymbol x ≡ t → stepSays (refusedTo 1 r) ≡ step_of r (readingSays (WrongDisparity x e))
+    by : (t : Bool) → is_symbol x ≡ t → step_says (refused_to 1 r) ≡ step_of r (reading_says (WrongDisparity x e))
     by true q = simp (h, q)
     by false q = simp q
-ill-formed r (Invalid e) h = simp h
-ill-formed r (NotRead n) h = refl
+ill_formed r (Invalid e) h = simp h
+ill_formed r (NotRead n) h = refl

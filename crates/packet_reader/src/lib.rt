@@ -1,10 +1,10 @@
 // The packet reader: one character result in, one event out. The state goes in by value and comes back.
 ghost use Rattle.std.specs.Prelude.{◌≡◌};
-ghost use Rattle.character_rules.specs.Answers.{readingSays};
-ghost use Rattle.packet_rules.specs.Answers.{stepSays, freshSays};
-ghost use Rattle.packet_rules.specs.State.{freshReader};
+ghost use Rattle.character_rules.specs.Answers.{reading_says};
+ghost use Rattle.packet_rules.specs.Answers.{step_says, fresh_says};
+ghost use Rattle.packet_rules.specs.State.{fresh_reader};
 ghost use Rattle.packet_rules.specs.Step.{step_of};
-ghost use Rattle.packet_reader.specs.Classes.{class_of, cleanOf, spoiledOf, advanceOf, refusedTo};
+ghost use Rattle.packet_reader.specs.Classes.{class_of, clean_of, spoiled_of, advance_of, refused_to};
 
 use character_rules::Decoded;
 use packet_rules::{
@@ -47,7 +47,7 @@ fn classify(s: Symbol) -> Class
 
 // A clean symbol of kind k.
 fn clean(r: Reader, phase: Phase, k: Kind) -> Step
-    ensures { result ≡ cleanOf phase k r }
+    ensures { result ≡ clean_of phase k r }
 {
     match phase {
         Phase::Free => packet_turns::free(r, k),
@@ -59,7 +59,7 @@ fn clean(r: Reader, phase: Phase, k: Kind) -> Step
 
 // A result that is not clean: violation n, but while dropping nothing.
 fn spoiled(n: u8, phase: Phase, r: Reader) -> Step
-    ensures { result ≡ spoiledOf n phase r }
+    ensures { result ≡ spoiled_of n phase r }
 {
     match phase {
         Phase::Free => packet_answers::violated(n, r),
@@ -71,7 +71,7 @@ fn spoiled(n: u8, phase: Phase, r: Reader) -> Step
 
 // A refusal hands back the state as it was given.
 fn refused(n: u8, r: Reader) -> Step
-    ensures { result ≡ refusedTo n r }
+    ensures { result ≡ refused_to n r }
 {
     Step {
         event: Event::Refused(n),
@@ -81,7 +81,7 @@ fn refused(n: u8, r: Reader) -> Step
 
 // The step in a state that keeps the rule; a run of characters tests the rule once and goes on by this.
 pub fn advance(r: Reader, res: Decoded) -> Step
-    ensures { result ≡ advanceOf r res }
+    ensures { result ≡ advance_of r res }
 {
     let phase = r.phase;
     match res {
@@ -106,7 +106,7 @@ pub fn advance(r: Reader, res: Decoded) -> Step
 
 // One character result in, one event out.
 pub fn step(r: Reader, res: Decoded) -> Step
-    ensures { stepSays result ≡ step_of r (readingSays res) }
+    ensures { step_says result ≡ step_of r (reading_says res) }
 {
     if packet_state::is_well_formed(r) {
         advance(r, res)
@@ -117,7 +117,7 @@ pub fn step(r: Reader, res: Decoded) -> Step
 
 // A reader before any character, for segments of S bytes.
 pub fn fresh(s: u32) -> FreshReader
-    ensures { freshSays result ≡ freshReader s }
+    ensures { fresh_says result ≡ fresh_reader s }
 {
     if segment_size::size_is_allowed(s) {
         let reader = Reader {

@@ -1,11 +1,11 @@
 // Which number writing a packet is refused with, and 0 where it is not refused.
 ghost use Rattle.std.specs.Prelude.{◌≡◌, false};
-ghost use Rattle.refusal.specs.Order.{refusalOf};
-ghost use Rattle.packet_rules.specs.Packets.{inData, inPriority, retry, packetChecks};
+ghost use Rattle.refusal.specs.Order.{refusal_of};
+ghost use Rattle.packet_rules.specs.Packets.{in_data, in_priority, retry, packet_checks};
 
 // A data packet, into an output of so many characters. S plays no part in it.
 pub fn data_refusal(channel: u32, bytes: &[u8], disparity: i32, room: usize) -> u8
-    ensures { result ≡ refusalOf (packetChecks 0 (inData channel bytes.now false) disparity room) }
+    ensures { result ≡ refusal_of (packet_checks 0 (in_data channel bytes.now false) disparity room) }
 {
     if !disparity::is_disparity(disparity) {
         return refusal::OUT_OF_RANGE;
@@ -32,7 +32,7 @@ pub fn priority_refusal(
     disparity: i32,
     room: usize,
 ) -> u8
-    ensures { result ≡ refusalOf (packetChecks size (inPriority channel segment bytes.now false) disparity room) }
+    ensures { result ≡ refusal_of (packet_checks size (in_priority channel segment bytes.now false) disparity room) }
 {
     if !disparity::is_disparity(disparity) {
         return refusal::OUT_OF_RANGE;
@@ -61,7 +61,7 @@ pub fn priority_refusal(
 
 // A retry LMP.
 pub fn lmp_refusal(number: u32, disparity: i32, room: usize) -> u8
-    ensures { result ≡ refusalOf (packetChecks 0 (retry false number) disparity room) }
+    ensures { result ≡ refusal_of (packet_checks 0 (retry false number) disparity room) }
 {
     if !disparity::is_disparity(disparity) {
         return refusal::OUT_OF_RANGE;

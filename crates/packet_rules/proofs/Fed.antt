@@ -7,49 +7,49 @@ use Prim.Native.Nat.{ℕ, suc, ◌+◌, ◌≤◌, ◌<◌}
 use native.Mathlib.Omega.{arith}
 use borrow.Author.Tests.{lt-ltb, lt-leb}
 use lib.ListN.{length}
-use Rattle.crc.specs.Crc16.{crcByte, crcFrom}
-use Rattle.crc.proofs.Laws.{crc-cons, crc-none, crc-lt}
+use Rattle.crc.specs.Crc16.{crc_byte, crc_from}
+use Rattle.crc.proofs.Laws.{crc_cons, crc_none, crc_lt}
 use Rattle.packet_rules.specs.declared.DataPacket.{DataPacket}
 use Rattle.packet_rules.specs.declared.DataPacket.TheVariants.{NoData, InData}
 use Rattle.packet_rules.specs.declared.PriorityPacket.{PriorityPacket}
 use Rattle.packet_rules.specs.declared.PriorityPacket.TheVariants.{NoPriority, InPriority}
-use Rattle.packet_rules.specs.State.{noPriority, outside, hasByte, openingByte, registerIn, fedPriority, fedData}
-use Rattle.packet_rules.specs.Violations.{isFull}
+use Rattle.packet_rules.specs.State.{no_priority, outside, has_byte, opening_byte, register_in, fed_priority, fed_data}
+use Rattle.packet_rules.specs.Violations.{is_full}
 
-abbrev pub priorityAfter : PriorityPacket → List ℕ → PriorityPacket
-priorityAfter p [] = p
-priorityAfter p (b ∷ bs) = priorityAfter (fedPriority p b) bs
+abbrev pub priority_after : PriorityPacket → List ℕ → PriorityPacket
+priority_after p [] = p
+priority_after p (b ∷ bs) = priority_after (fed_priority p b) bs
 
-abbrev pub dataAfter : DataPacket → PriorityPacket → List ℕ → DataPacket
-dataAfter d p [] = d
-dataAfter d p (b ∷ bs) = dataAfter (fedData d p b) (fedPriority p b) bs
+abbrev pub data_after : DataPacket → PriorityPacket → List ℕ → DataPacket
+data_after d p [] = d
+data_after d p (b ∷ bs) = data_after (fed_data d p b) (fed_priority p b) bs
 
 -- ---- one byte
 
-pub fed-priority : (p : PriorityPacket) (b : ℕ) → noPriority (fedPriority p b) ≡ noPriority p
-fed-priority NoPriority b = refl
-fed-priority (InPriority o n c) b = refl
+pub fed_priority_lem : (p : PriorityPacket) (b : ℕ) → no_priority (fed_priority p b) ≡ no_priority p
+fed_priority_lem NoPriority b = refl
+fed_priority_lem (InPriority o n c) b = refl
 
-pub fed-outside : (d : DataPacket) (p : PriorityPacket) (b : ℕ) → outside (fedData d p b) (fedPriority p b) ≡ outside d p
-fed-outside d (InPriority o n c) b = refl
-fed-outside (InData h x c) NoPriority b = refl
-fed-outside NoData NoPriority b = refl
+pub fed_outside : (d : DataPacket) (p : PriorityPacket) (b : ℕ) → outside (fed_data d p b) (fed_priority p b) ≡ outside d p
+fed_outside d (InPriority o n c) b = refl
+fed_outside (InData h x c) NoPriority b = refl
+fed_outside NoData NoPriority b = refl
 
-fed-opening : (d : DataPacket) (p : PriorityPacket) (b : ℕ) → openingByte (fedData d p b) (fedPriority p b) ≡ openingByte d p
-fed-opening d (InPriority o n c) b = refl
-fed-opening (InData h x c) NoPriority b = refl
-fed-opening NoData NoPriority b = refl
+fed_opening : (d : DataPacket) (p : PriorityPacket) (b : ℕ) → opening_byte (fed_data d p b) (fed_priority p b) ≡ opening_byte d p
+fed_opening d (InPriority o n c) b = refl
+fed_opening (InData h x c) NoPriority b = refl
+fed_opening NoData NoPriority b = refl
 
-fed-has : (d : DataPacket) (p : PriorityPacket) (b : ℕ) → outside d p ≡ false → hasByte (fedData d p b) (fedPriority p b) ≡ true
-fed-has d (InPriority o n c) b h = lt-ltb 0 (n + 1) (omega arith)
-fed-has (InData h x c) NoPriority b e = refl
-fed-has NoData NoPriority b e = sym e
+fed_has : (d : DataPacket) (p : PriorityPacket) (b : ℕ) → outside d p ≡ false → has_byte (fed_data d p b) (fed_priority p b) ≡ true
+fed_has d (InPriority o n c) b h = lt-ltb 0 (n + 1) (omega arith)
+fed_has (InData h x c) NoPriority b e = refl
+fed_has NoData NoPriority b e = sym e
 
-fed-register : (d : DataPacket) (p : PriorityPacket) (b : ℕ) → outside d p ≡ false
-    → registerIn (fedData d p b) (fedPriority p b) ≡ crcByte (registerIn d p) b
-fed-register d (InPriority o n c) b h = refl
-fed-register (InData h x c) NoPriority b e = refl
-fed-register NoData NoPriority b e = absurd (let z : ◌≡◌ {A = ℕ} 0 1 = cc e in omega arith)
+fed_register : (d : DataPacket) (p : PriorityPacket) (b : ℕ) → outside d p ≡ false
+    → register_in (fed_data d p b) (fed_priority p b) ≡ crc_byte (register_in d p) b
+fed_register d (InPriority o n c) b h = refl
+fed_register (InData h x c) NoPriority b e = refl
+fed_register NoData NoPriority b e = absurd (let z : ◌≡◌ {A = ℕ} 0 1 = cc e in omega arith)
 
 -- ---- a priority packet has room for k bytes more
 
@@ -57,43 +57,43 @@ abbrev pub Room : ℕ → PriorityPacket → ℕ → Type 0
 Room s NoPriority k = Unit {0}
 Room s (InPriority o n c) k = n + k ≤ s
 
-pub room-full : (s : ℕ) (p : PriorityPacket) (k : ℕ) → Room s p (suc k) → isFull s p ≡ false
-room-full s NoPriority k h = refl
-room-full s (InPriority o n c) k h = lt-leb s n (omega (arith, h))
+pub room_full : (s : ℕ) (p : PriorityPacket) (k : ℕ) → Room s p (suc k) → is_full s p ≡ false
+room_full s NoPriority k h = refl
+room_full s (InPriority o n c) k h = lt-leb s n (omega (arith, h))
 
-pub room-less : (s : ℕ) (p : PriorityPacket) (k b : ℕ) → Room s p (suc k) → Room s (fedPriority p b) k
-room-less s NoPriority k b h = tt
-room-less s (InPriority o n c) k b h = omega (arith, h)
+pub room_less : (s : ℕ) (p : PriorityPacket) (k b : ℕ) → Room s p (suc k) → Room s (fed_priority p b) k
+room_less s NoPriority k b h = tt
+room_less s (InPriority o n c) k b h = omega (arith, h)
 
 -- ---- a run of bytes
 
-pub after-priority : (p : PriorityPacket) (bs : List ℕ) → noPriority (priorityAfter p bs) ≡ noPriority p
-after-priority p [] = refl
-after-priority p (b ∷ bs) = after-priority (fedPriority p b) bs ∙ fed-priority p b
+pub after_priority : (p : PriorityPacket) (bs : List ℕ) → no_priority (priority_after p bs) ≡ no_priority p
+after_priority p [] = refl
+after_priority p (b ∷ bs) = after_priority (fed_priority p b) bs ∙ fed_priority_lem p b
 
-pub after-outside : (d : DataPacket) (p : PriorityPacket) (bs : List ℕ) → outside (dataAfter d p bs) (priorityAfter p bs) ≡ outside d p
-after-outside d p [] = refl
-after-outside d p (b ∷ bs) = after-outside (fedData d p b) (fedPriority p b) bs ∙ fed-outside d p b
+pub after_outside : (d : DataPacket) (p : PriorityPacket) (bs : List ℕ) → outside (data_after d p bs) (priority_after p bs) ≡ outside d p
+after_outside d p [] = refl
+after_outside d p (b ∷ bs) = after_outside (fed_data d p b) (fed_priority p b) bs ∙ fed_outside d p b
 
-pub after-opening : (d : DataPacket) (p : PriorityPacket) (bs : List ℕ) → openingByte (dataAfter d p bs) (priorityAfter p bs) ≡ openingByte d p
-after-opening d p [] = refl
-after-opening d p (b ∷ bs) = after-opening (fedData d p b) (fedPriority p b) bs ∙ fed-opening d p b
+pub after_opening : (d : DataPacket) (p : PriorityPacket) (bs : List ℕ) → opening_byte (data_after d p bs) (priority_after p bs) ≡ opening_byte d p
+after_opening d p [] = refl
+after_opening d p (b ∷ bs) = after_opening (fed_data d p b) (fed_priority p b) bs ∙ fed_opening d p b
 
 -- the register is the CRC of the bytes, from where it stood
-pub after-register : (d : DataPacket) (p : PriorityPacket) (bs : List ℕ) → outside d p ≡ false → registerIn d p < 65536
-    → registerIn (dataAfter d p bs) (priorityAfter p bs) ≡ crcFrom (registerIn d p) bs
-after-register d p [] o h = sym (crc-none (registerIn d p) h)
-after-register d p (b ∷ bs) o h =
-    let e = fed-register d p b o in
-    after-register (fedData d p b) (fedPriority p b) bs (fed-outside d p b ∙ o) (rw e (crc-lt (registerIn d p) (b ∷ [])))
-    ∙ ap (λ (c : ℕ). crcFrom c bs) e ∙ sym (crc-cons (registerIn d p) b bs)
+pub after_register : (d : DataPacket) (p : PriorityPacket) (bs : List ℕ) → outside d p ≡ false → register_in d p < 65536
+    → register_in (data_after d p bs) (priority_after p bs) ≡ crc_from (register_in d p) bs
+after_register d p [] o h = sym (crc_none (register_in d p) h)
+after_register d p (b ∷ bs) o h =
+    let e = fed_register d p b o in
+    after_register (fed_data d p b) (fed_priority p b) bs (fed_outside d p b ∙ o) (rw e (crc_lt (register_in d p) (b ∷ [])))
+    ∙ ap (λ (c : ℕ). crc_from c bs) e ∙ sym (crc_cons (register_in d p) b bs)
 
-still-has : (d : DataPacket) (p : PriorityPacket) (bs : List ℕ) → outside d p ≡ false → hasByte d p ≡ true
-    → hasByte (dataAfter d p bs) (priorityAfter p bs) ≡ true
-still-has d p [] o h = h
-still-has d p (b ∷ bs) o h = still-has (fedData d p b) (fedPriority p b) bs (fed-outside d p b ∙ o) (fed-has d p b o)
+still_has : (d : DataPacket) (p : PriorityPacket) (bs : List ℕ) → outside d p ≡ false → has_byte d p ≡ true
+    → has_byte (data_after d p bs) (priority_after p bs) ≡ true
+still_has d p [] o h = h
+still_has d p (b ∷ bs) o h = still_has (fed_data d p b) (fed_priority p b) bs (fed_outside d p b ∙ o) (fed_has d p b o)
 
-pub after-has : (d : DataPacket) (p : PriorityPacket) (bs : List ℕ) → outside d p ≡ false → 1 ≤ length bs
-    → hasByte (dataAfter d p bs) (priorityAfter p bs) ≡ true
-after-has d p [] o h = absurd (omega arith)
-after-has d p (b ∷ bs) o h = still-has (fedData d p b) (fedPriority p b) bs (fed-outside d p b ∙ o) (fed-has d p b o)
+pub after_has : (d : DataPacket) (p : PriorityPacket) (bs : List ℕ) → outside d p ≡ false → 1 ≤ length bs
+    → has_byte (data_after d p bs) (priority_after p bs) ≡ true
+after_has d p [] o h = absurd (omega arith)
+after_has d p (b ∷ bs) o h = still_has (fed_data d p b) (fed_priority p b) bs (fed_outside d p b ∙ o) (fed_has d p b o)

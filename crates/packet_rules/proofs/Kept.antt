@@ -7,9 +7,9 @@ use Prim.Native.Nat.{ℕ, ◌+◌, ◌-◌}
 use native.Mathlib.Omega.{arith}
 use borrow.Author.Tests.{lt-ltb, le-leb, leb-true, leb-false, eq-eqb, eqb-true, not-false}
 use lib.Dec.{leb, ltb, eqb}
-use Rattle.laws.proofs.Cases.{first-true, second-true}
+use Rattle.laws.proofs.Cases.{first_true, second_true}
 use Rattle.character_rules.specs.Answers.{Reading}
-use Rattle.crc.specs.Crc16.{crcStart, crcByte}
+use Rattle.crc.specs.Crc16.{crc_start, crc_byte}
 use Rattle.packet_rules.specs.declared.Opener.TheVariants.{Sdp, Spp, Slp}
 use Rattle.packet_rules.specs.declared.Kind.{Kind}
 use Rattle.packet_rules.specs.declared.Kind.TheVariants.{Data, Idl, Com, Opens, Closes, NoPlace, Unsupported}
@@ -23,37 +23,37 @@ use Rattle.packet_rules.specs.declared.Phase.{Phase}
 use Rattle.packet_rules.specs.declared.Phase.TheVariants.{Free, Next, Idles, Dropping}
 use Rattle.packet_rules.specs.declared.Reader.{Reader}
 use Rattle.packet_rules.specs.Answers.{Said, Answer, nothing, violated, ended}
-use Rattle.packet_rules.specs.State.{noPriority, outside, hasByte, dataRule, priorityRule, dueRule, phaseRule, wellFormed, fresh}
-use Rattle.segment_size.specs.Sizes.{sizeAllowed}
-use Rattle.packet_rules.specs.Violations.{isFull, conditions, violationOf}
-use Rattle.packet_rules.specs.Step.{answer, userByte, freeMove, closesOwn, dueMove, byte_of, idlesAfter, move, broken, awakens, dropped, judged, kindIn, read_of, stepChecks, refusedStep, step_of}
-use Rattle.packet_rules.proofs.Choice.{either, by-outcome}
-use Rattle.packet_rules.proofs.Lowest.{NoneOf, lowest-none}
+use Rattle.packet_rules.specs.State.{no_priority, outside, has_byte, data_rule, priority_rule, due_rule, phase_rule, well_formed, fresh}
+use Rattle.segment_size.specs.Sizes.{size_allowed}
+use Rattle.packet_rules.specs.Violations.{is_full, conditions, violation_of}
+use Rattle.packet_rules.specs.Step.{answer, user_byte, free_move, closes_own, due_move, byte_of, idles_after, move, broken, awakens, dropped, judged, kind_in, read_of, step_checks, refused_step, step_of}
+use Rattle.packet_rules.proofs.Choice.{either, by_outcome}
+use Rattle.packet_rules.proofs.Lowest.{NoneOf, lowest_none}
 
 abbrev st : ℕ → DataPacket → PriorityPacket → Phase → Reader
 st s d p w = record { size = s; packet = d; priority = p; phase = w }
 
 abbrev pub Keeps : Answer → Type 0
-Keeps a = wellFormed a.reader ≡ true
+Keeps a = well_formed a.reader ≡ true
 
-module _ (s : ℕ) (ok : sizeAllowed s ≡ true) where
-  keep : (d : DataPacket) (p : PriorityPacket) (w : Phase) → dataRule d ≡ true → priorityRule s p ≡ true → phaseRule d p w ≡ true
-      → wellFormed (st s d p w) ≡ true
-  unfolding wellFormed
+module _ (s : ℕ) (ok : size_allowed s ≡ true) where
+  keep : (d : DataPacket) (p : PriorityPacket) (w : Phase) → data_rule d ≡ true → priority_rule s p ≡ true → phase_rule d p w ≡ true
+      → well_formed (st s d p w) ≡ true
+  unfolding well_formed
   keep d p w a b c = simp (ok, a, b, c)
 
-  started-data : (b : ℕ) → dataRule (InData b false crcStart) ≡ true
-  started-data b = eq-eqb crcStart crcStart refl
+  started_data_lem : (b : ℕ) → data_rule (InData b false crc_start) ≡ true
+  started_data_lem b = eq-eqb crc_start crc_start refl
 
-  started-priority : (b : ℕ) → priorityRule s (InPriority b 0 crcStart) ≡ true
-  started-priority b = simp (le-leb 0 s (omega arith), eq-eqb crcStart crcStart refl)
+  started_priority_lem : (b : ℕ) → priority_rule s (InPriority b 0 crc_start) ≡ true
+  started_priority_lem b = simp (le-leb 0 s (omega arith), eq-eqb crc_start crc_start refl)
 
-  module _ (d : DataPacket) (p : PriorityPacket) (dr : dataRule d ≡ true) (pr : priorityRule s p ≡ true) where
+  module _ (d : DataPacket) (p : PriorityPacket) (dr : data_rule d ≡ true) (pr : priority_rule s p ≡ true) where
     -- what closes the own packet, or all
-    own : (said : Said) (w : Phase) → Keeps (closesOwn said p (st s d p w))
+    own : (said : Said) (w : Phase) → Keeps (closes_own said p (st s d p w))
     own said w = go p
       where
-        go : (q : PriorityPacket) → Keeps (closesOwn said q (st s d p w))
+        go : (q : PriorityPacket) → Keeps (closes_own said q (st s d p w))
         go NoPriority = keep NoData NoPriority Free refl refl refl
         go (InPriority o n c) = keep d NoPriority Free dr refl refl
 
@@ -63,9 +63,9 @@ module _ (s : ℕ) (ok : sizeAllowed s ≡ true) where
         either Keeps (eqb n 7) _ _ (λ e. keep d p Free dr pr refl)
         (λ e. either Keeps (eqb n 6) _ _ (λ f. own (violated n) w) (λ f. keep NoData NoPriority Dropping refl refl refl))
 
-    due : (x : Due) (b : ℕ) (w : Phase) → dueRule d p x ≡ true → Keeps (dueMove x b (st s d p w))
-    due Channel b w h = keep (InData b false crcStart) p Free (started-data b) pr refl
-    due Opening b w h = keep d (InPriority b 0 crcStart) Free dr (started-priority b) refl
+    due : (x : Due) (b : ℕ) (w : Phase) → due_rule d p x ≡ true → Keeps (due_move x b (st s d p w))
+    due Channel b w h = keep (InData b false crc_start) p Free (started_data_lem b) pr refl
+    due Opening b w h = keep d (InPriority b 0 crc_start) Free dr (started_priority_lem b) refl
     due (Closing bad) b w h = keep d p (Next (FirstCrc bad)) dr pr h
     due (FirstCrc bad) b w h = keep d p (Next (SecondCrc bad b)) dr pr h
     due (SecondCrc bad a) b w h = own (ended bad) w
@@ -73,54 +73,54 @@ module _ (s : ℕ) (ok : sizeAllowed s ≡ true) where
     due (LmpNumber t) b w h = keep d p (Next (LmpCheck t b)) dr pr refl
     due (LmpCheck t n) b w h = keep d p Free dr pr refl
 
-    idles : (n : ℕ) → phaseRule d p (Idles n) ≡ true → phaseRule d p (idlesAfter n) ≡ true
+    idles : (n : ℕ) → phase_rule d p (Idles n) ≡ true → phase_rule d p (idles_after n) ≡ true
     idles n h =
-        either (λ (w : Phase). phaseRule d p w ≡ true) (leb n 1) Free (Idles (n - 1)) (λ e. refl)
-        (λ e. simp (lt-ltb 0 (n - 1) (omega (arith, leb-false n 1 e)), le-leb (n - 1) 3 (omega (arith, leb-true n 3 (second-true (ltb 0 n) (leb n 3) h)))))
+        either (λ (w : Phase). phase_rule d p w ≡ true) (leb n 1) Free (Idles (n - 1)) (λ e. refl)
+        (λ e. simp (lt-ltb 0 (n - 1) (omega (arith, leb-false n 1 e)), le-leb (n - 1) 3 (omega (arith, leb-true n 3 (second_true (ltb 0 n) (leb n 3) h)))))
 
-  user : (d : DataPacket) (p : PriorityPacket) (b : ℕ) (w : Phase) → dataRule d ≡ true → priorityRule s p ≡ true → isFull s p ≡ false
-      → Keeps (userByte d p b (st s d p w))
+  user : (d : DataPacket) (p : PriorityPacket) (b : ℕ) (w : Phase) → data_rule d ≡ true → priority_rule s p ≡ true → is_full s p ≡ false
+      → Keeps (user_byte d p b (st s d p w))
   user d (InPriority o n c) b w dr pr h =
-      keep d (InPriority o (n + 1) (crcByte c b)) Free dr
+      keep d (InPriority o (n + 1) (crc_byte c b)) Free dr
       (simp (le-leb (n + 1) s (omega (arith, leb-false s n h)), lt-ltb 0 (n + 1) (omega arith))) refl
-  user (InData x y c) NoPriority b w dr pr h = keep (InData x true (crcByte c b)) NoPriority Free refl refl refl
+  user (InData x y c) NoPriority b w dr pr h = keep (InData x true (crc_byte c b)) NoPriority Free refl refl refl
   user NoData NoPriority b w dr pr h = keep NoData NoPriority Free refl refl refl
 
-  module _ (d : DataPacket) (p : PriorityPacket) (dr : dataRule d ≡ true) (pr : priorityRule s p ≡ true) where
-    free : (k : Kind) → NoneOf (conditions (st s d p Free) k) → Keeps (freeMove k (st s d p Free))
+  module _ (d : DataPacket) (p : PriorityPacket) (dr : data_rule d ≡ true) (pr : priority_rule s p ≡ true) where
+    free : (k : Kind) → NoneOf (conditions (st s d p Free) k) → Keeps (free_move k (st s d p Free))
     free (Data b) h = user d p b Free dr pr h.1.1.1.1.1.1.1.0
     free Idl h = keep d p Free dr pr refl
     free Com h = keep d p (Idles 3) dr pr refl
     free (Opens Sdp) h = keep d p (Next Channel) dr pr (not-false (outside d p) h.1.0)
-    free (Opens Spp) h = keep d p (Next Opening) dr pr (not-false (noPriority p) h.1.0)
+    free (Opens Spp) h = keep d p (Next Opening) dr pr (not-false (no_priority p) h.1.0)
     free (Opens Slp) h = keep d p (Next LmpType) dr pr refl
-    free (Closes bad) h = keep d p (Next (Closing bad)) dr pr (not-false (hasByte d p) h.1.1.1.1.1.0)
+    free (Closes bad) h = keep d p (Next (Closing bad)) dr pr (not-false (has_byte d p) h.1.1.1.1.1.0)
     free NoPlace h = keep d p Free dr pr refl
     free Unsupported h = keep d p Free dr pr refl
 
-    moves : (w : Phase) (k : Kind) → phaseRule d p w ≡ true → NoneOf (conditions (st s d p w) k) → Keeps (move w k (st s d p w))
+    moves : (w : Phase) (k : Kind) → phase_rule d p w ≡ true → NoneOf (conditions (st s d p w) k) → Keeps (move w k (st s d p w))
     moves Free k wr h = free k h
     moves (Next x) k wr h = due d p dr pr x (byte_of k) (Next x) wr
-    moves (Idles n) k wr h = keep d p (idlesAfter n) dr pr (idles d p dr pr n wr)
+    moves (Idles n) k wr h = keep d p (idles_after n) dr pr (idles d p dr pr n wr)
     moves Dropping k wr h = keep d p Dropping dr pr wr
 
-    judges : (w : Phase) (g : Reading) (k : Kind) → phaseRule d p w ≡ true → Keeps (judged (violationOf (st s d p w) g k) k (st s d p w))
-    unfolding violationOf
+    judges : (w : Phase) (g : Reading) (k : Kind) → phase_rule d p w ≡ true → Keeps (judged (violation_of (st s d p w) g k) k (st s d p w))
+    unfolding violation_of
     judges w g k wr =
         let r = st s d p w in
         let bs = eqb g.violation 1 ∷ eqb g.violation 2 ∷ conditions r k in
-        either Keeps (eqb (violationOf r g k) 0) _ _
-        (λ e. moves w k wr (lowest-none 0 bs (eqb-true (violationOf r g k) 0 e)).1.1) (λ e. break d p dr pr (violationOf r g k) w)
+        either Keeps (eqb (violation_of r g k) 0) _ _
+        (λ e. moves w k wr (lowest_none 0 bs (eqb-true (violation_of r g k) 0 e)).1.1) (λ e. break d p dr pr (violation_of r g k) w)
 
     -- an opening symbol ends the dropping: nothing is open, so it may stand
-    awake : (k : Kind) → outside d p ≡ true → phaseRule d p (awakens k) ≡ true
+    awake : (k : Kind) → outside d p ≡ true → phase_rule d p (awakens k) ≡ true
     awake (Data b) h = h
     awake Idl h = h
     awake Com h = h
     awake (Opens Sdp) h = h
     awake (Opens Spp) h = go p h
       where
-        go : (q : PriorityPacket) → outside d q ≡ true → noPriority q ≡ true
+        go : (q : PriorityPacket) → outside d q ≡ true → no_priority q ≡ true
         go NoPriority e = refl
         go (InPriority o n c) e = e
     awake (Opens Slp) h = refl
@@ -134,7 +134,7 @@ module _ (s : ℕ) (ok : sizeAllowed s ≡ true) where
         either (λ (w : Phase). Keeps (answer nothing d p w (st s d p Dropping))) (eqb g.violation 0) (awakens k) Dropping
         (λ e. keep d p (awakens k) dr pr (awake k h)) (λ e. keep d p Dropping dr pr h)
 
-    reads : (w : Phase) (g : Reading) (k : Kind) → phaseRule d p w ≡ true → Keeps (read_of (st s d p w) g k)
+    reads : (w : Phase) (g : Reading) (k : Kind) → phase_rule d p w ≡ true → Keeps (read_of (st s d p w) g k)
     unfolding read_of
     reads Free g k wr = judges Free g k wr
     reads (Next x) g k wr = judges (Next x) g k wr
@@ -142,19 +142,19 @@ module _ (s : ℕ) (ok : sizeAllowed s ≡ true) where
     reads Dropping g k wr = drops g k wr
 
 -- a refused step hands back the state that it was given, and any other is a step of the reader
-pub kept : (r : Reader) (g : Reading) → wellFormed r ≡ true → Keeps (step_of r g)
-unfolding step_of wellFormed
+pub kept : (r : Reader) (g : Reading) → well_formed r ≡ true → Keeps (step_of r g)
+unfolding step_of well_formed
 kept r g h =
-    let s = sizeAllowed r.size in
-    let d = dataRule r.packet in
-    let p = priorityRule r.size r.priority in
-    let w = phaseRule r.packet r.priority r.phase in
-    let dpw = second-true s (d && (p && w)) h in
-    let pw = second-true d (p && w) dpw in
-    let k = kindIn g.symbol in
-    by-outcome Keeps (stepChecks r g) (refusedStep r) (read_of r g k) (λ n. h)
-    (reads r.size (first-true s (d && (p && w)) h) r.packet r.priority (first-true d (p && w) dpw) (first-true p w pw) r.phase g k
-    (second-true p w pw))
+    let s = size_allowed r.size in
+    let d = data_rule r.packet in
+    let p = priority_rule r.size r.priority in
+    let w = phase_rule r.packet r.priority r.phase in
+    let dpw = second_true s (d && (p && w)) h in
+    let pw = second_true d (p && w) dpw in
+    let k = kind_in g.symbol in
+    by_outcome Keeps (step_checks r g) (refused_step r) (read_of r g k) (λ n. h)
+    (reads r.size (first_true s (d && (p && w)) h) r.packet r.priority (first_true d (p && w) dpw) (first_true p w pw) r.phase g k
+    (second_true p w pw))
 
-pub fresh_kept : (s : ℕ) → sizeAllowed s ≡ true → wellFormed (fresh s) ≡ true
+pub fresh_kept : (s : ℕ) → size_allowed s ≡ true → well_formed (fresh s) ≡ true
 fresh_kept s ok = keep s ok NoData NoPriority Free refl refl refl

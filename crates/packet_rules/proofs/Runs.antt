@@ -8,7 +8,7 @@ use Rattle.symbol.specs.declared.Symbol.{Symbol}
 use Rattle.character_rules.specs.Answers.{Reading, clean}
 use Rattle.packet_rules.specs.declared.Reader.{Reader}
 use Rattle.packet_rules.specs.Answers.{Said, Answer}
-use Rattle.packet_rules.specs.State.{wellFormed}
+use Rattle.packet_rules.specs.State.{well_formed}
 use Rattle.packet_rules.specs.Step.{step_of}
 use Rattle.packet_rules.specs.Line.{said_of, after_of, ReadClean, nil, next}
 use Rattle.packet_rules.proofs.Kept.{kept}
@@ -27,23 +27,23 @@ runs_append (stop r) k = k
 runs_append (step s e h l) k = step s e h (runs_append l k)
 
 -- the rule is kept from one end to the other
-pub runs-kept : {r q : Reader} {ss : List Symbol} {es : List Said} → Runs r ss es q → wellFormed r ≡ true → wellFormed q ≡ true
-runs-kept (stop r) h = h
-runs-kept (step s e {r = r} {q = q} f l) h =
-    runs-kept l (subst (λ (a : Answer). wellFormed a.reader ≡ true) (f (pos 1)) (kept r (clean s (pos 1)) h))
+pub runs_kept : {r q : Reader} {ss : List Symbol} {es : List Said} → Runs r ss es q → well_formed r ≡ true → well_formed q ≡ true
+runs_kept (stop r) h = h
+runs_kept (step s e {r = r} {q = q} f l) h =
+    runs_kept l (subst (λ (a : Answer). well_formed a.reader ≡ true) (f (pos 1)) (kept r (clean s (pos 1)) h))
 
 -- a step, and the run after it, which may use that the rule is kept
-pub go : (r q : Reader) (x : Symbol) (e : Said) {w : Reader} {ss : List Symbol} {es : List Said} → wellFormed r ≡ true
-    → ((d : ℤ) → step_of r (clean x d) ≡ gives e q) → (wellFormed q ≡ true → Runs q ss es w) → Runs r (x ∷ ss) (e ∷ es) w
-go r q x e ok f k = step x e f (k (runs-kept (step x e f (stop q)) ok))
+pub go : (r q : Reader) (x : Symbol) (e : Said) {w : Reader} {ss : List Symbol} {es : List Said} → well_formed r ≡ true
+    → ((d : ℤ) → step_of r (clean x d) ≡ gives e q) → (well_formed q ≡ true → Runs q ss es w) → Runs r (x ∷ ss) (e ∷ es) w
+go r q x e ok f k = step x e f (k (runs_kept (step x e f (stop q)) ok))
 
 -- and what a run says is what the reader says, at whatever disparities
-pub runs-said : {r q : Reader} {ss : List Symbol} {es : List Said} {gs : List Reading} → Runs r ss es q → ReadClean ss gs
+pub runs_said : {r q : Reader} {ss : List Symbol} {es : List Said} {gs : List Reading} → Runs r ss es q → ReadClean ss gs
     → (said_of r gs ≡ es) × (after_of r gs ≡ q)
 unfolding said_of after_of
-runs-said (stop r) nil = (refl, refl)
-runs-said (step s e f l) (next t d {gs = gs} c) =
-    let k = runs-said l c in (
+runs_said (stop r) nil = (refl, refl)
+runs_said (step s e f l) (next t d {gs = gs} c) =
+    let k = runs_said l c in (
       ap₂ ◌∷◌ (ap (λ (a : Answer). a.said) (f d)) (ap (λ (a : Answer). said_of a.reader gs) (f d) ∙ k.0),
       ap (λ (a : Answer). after_of a.reader gs) (f d) ∙ k.1,
     )

@@ -8,58 +8,58 @@ use Rattle.packet_rules.specs.declared.FreshReader.{FreshReader}
 use Rattle.packet_rules.specs.declared.FreshReader.TheVariants.{Ready, Refused as NotMade}
 use Rattle.packet_rules.specs.declared.Written.{Written}
 use Rattle.packet_rules.specs.declared.Written.TheVariants.{Done, Refused as NotDone}
-use Rattle.packet_rules.specs.Packets.{PacketWriting, writtenSays}
+use Rattle.packet_rules.specs.Packets.{PacketWriting, written_says}
 use Rattle.packet_rules.specs.History.{given}
-use Rattle.packet_rules.specs.Answers.{Said, Start, Answer, Made, eventSays, stepSays, freshSays}
+use Rattle.packet_rules.specs.Answers.{Said, Start, Answer, Made, event_says, step_says, fresh_says}
 
-abbrev theStart : Start → Event
-theStart s = given s.segment (StartPriority s.channel) (StartData s.channel)
+abbrev the_start : Start → Event
+the_start s = given s.segment (StartPriority s.channel) (StartData s.channel)
 
-abbrev pub theEvent : Said → Event
-theEvent s =
+abbrev pub the_event : Said → Event
+the_event s =
     given s.refusal Refused
     (given s.violation Violation
-    (given s.start theStart
+    (given s.start the_start
     (given s.byte Byte
     (given s.end End
     (given s.lmp (λ l. Lmp l.nack l.number) Nothing)))))
 
-pub event-told : (e : Event) → theEvent (eventSays e) ≡ e
-event-told Nothing = refl
-event-told (StartData c) = refl
-event-told (StartPriority c n) = refl
-event-told (Byte b) = refl
-event-told (End bad) = refl
-event-told (Lmp nack n) = refl
-event-told (Violation n) = refl
-event-told (Refused n) = refl
+pub event_told : (e : Event) → the_event (event_says e) ≡ e
+event_told Nothing = refl
+event_told (StartData c) = refl
+event_told (StartPriority c n) = refl
+event_told (Byte b) = refl
+event_told (End bad) = refl
+event_told (Lmp nack n) = refl
+event_told (Violation n) = refl
+event_told (Refused n) = refl
 
-abbrev pub theStep : Answer → Step
-theStep a = record { event = theEvent a.said; reader = a.reader }
+abbrev pub the_step : Answer → Step
+the_step a = record { event = the_event a.said; reader = a.reader }
 
-pub step-told : (s : Step) → theStep (stepSays s) ≡ s
-step-told s = ap (λ (e : Event). record { event = e; reader = s.reader }) (event-told s.event)
+pub step_told : (s : Step) → the_step (step_says s) ≡ s
+step_told s = ap (λ (e : Event). record { event = e; reader = s.reader }) (event_told s.event)
 
-abbrev pub theFresh : Made → FreshReader
-theFresh m = given m.reader Ready (given m.refusal NotMade (NotMade 0))
+abbrev pub the_fresh : Made → FreshReader
+the_fresh m = given m.reader Ready (given m.refusal NotMade (NotMade 0))
 
-pub fresh-told : (a : FreshReader) → theFresh (freshSays a) ≡ a
-fresh-told (Ready r) = refl
-fresh-told (NotMade n) = refl
+pub fresh_told : (a : FreshReader) → the_fresh (fresh_says a) ≡ a
+fresh_told (Ready r) = refl
+fresh_told (NotMade n) = refl
 
 -- two answers that say the same are the same
-pub one-step : (a b : Step) → stepSays a ≡ stepSays b → a ≡ b
-one-step a b e = sym (step-told a) ∙ ap theStep e ∙ step-told b
+pub one_step : (a b : Step) → step_says a ≡ step_says b → a ≡ b
+one_step a b e = sym (step_told a) ∙ ap the_step e ∙ step_told b
 
-pub one-fresh : (a b : FreshReader) → freshSays a ≡ freshSays b → a ≡ b
-one-fresh a b e = sym (fresh-told a) ∙ ap theFresh e ∙ fresh-told b
+pub one_fresh : (a b : FreshReader) → fresh_says a ≡ fresh_says b → a ≡ b
+one_fresh a b e = sym (fresh_told a) ∙ ap the_fresh e ∙ fresh_told b
 
-abbrev pub theWritten : PacketWriting → Written
-theWritten w = given w.count (λ n. given w.disparity (Done n) (NotDone 0)) (given w.refusal NotDone (NotDone 0))
+abbrev pub the_written : PacketWriting → Written
+the_written w = given w.count (λ n. given w.disparity (Done n) (NotDone 0)) (given w.refusal NotDone (NotDone 0))
 
-pub written-told : (a : Written) → theWritten (writtenSays a) ≡ a
-written-told (Done n e) = refl
-written-told (NotDone n) = refl
+pub written_told : (a : Written) → the_written (written_says a) ≡ a
+written_told (Done n e) = refl
+written_told (NotDone n) = refl
 
-pub one_written : (a b : Written) → writtenSays a ≡ writtenSays b → a ≡ b
-one_written a b e = sym (written-told a) ∙ ap theWritten e ∙ written-told b
+pub one_written : (a b : Written) → written_says a ≡ written_says b → a ≡ b
+one_written a b e = sym (written_told a) ∙ ap the_written e ∙ written_told b

@@ -32,8 +32,8 @@ nothing = record { refusal = none; violation = none; start = none; byte = none; 
 abbrev pub started : ℕ → Option ℕ → Said
 started c n = record { refusal = none; violation = none; start = some (record { channel = c; segment = n }); byte = none; end = none; lmp = none }
 
-abbrev pub gaveByte : ℕ → Said
-gaveByte b = record { refusal = none; violation = none; start = none; byte = some b; end = none; lmp = none }
+abbrev pub gave_byte : ℕ → Said
+gave_byte b = record { refusal = none; violation = none; start = none; byte = some b; end = none; lmp = none }
 
 abbrev pub ended : Bool → Said
 ended bad = record { refusal = none; violation = none; start = none; byte = none; end = some bad; lmp = none }
@@ -47,23 +47,23 @@ violated n = record { refusal = none; violation = some n; start = none; byte = n
 abbrev pub refused : ℕ → Said
 refused n = record { refusal = some n; violation = none; start = none; byte = none; end = none; lmp = none }
 
-abbrev pub eventSays : Event → Said
-eventSays Nothing = nothing
-eventSays (StartData c) = started c none
-eventSays (StartPriority c n) = started c (some n)
-eventSays (Byte b) = gaveByte b
-eventSays (End bad) = ended bad
-eventSays (Lmp nack n) = replied nack n
-eventSays (Violation n) = violated n
-eventSays (Refused n) = refused n
+abbrev pub event_says : Event → Said
+event_says Nothing = nothing
+event_says (StartData c) = started c none
+event_says (StartPriority c n) = started c (some n)
+event_says (Byte b) = gave_byte b
+event_says (End bad) = ended bad
+event_says (Lmp nack n) = replied nack n
+event_says (Violation n) = violated n
+event_says (Refused n) = refused n
 
 -- of a step: what it says, and the state it hands back
 pub record Answer : Type 0 where
   pub said : Said
   pub reader : Reader
 
-abbrev pub stepSays : Step → Answer
-stepSays s = record { said = eventSays s.event; reader = s.reader }
+abbrev pub step_says : Step → Answer
+step_says s = record { said = event_says s.event; reader = s.reader }
 
 -- of asking for a fresh reader: a refusal's number, or the reader
 pub record Made : Type 0 where
@@ -73,9 +73,9 @@ pub record Made : Type 0 where
 abbrev pub made : Reader → Made
 made r = record { refusal = none; reader = some r }
 
-abbrev pub notMade : ℕ → Made
-notMade n = record { refusal = some n; reader = none }
+abbrev pub not_made : ℕ → Made
+not_made n = record { refusal = some n; reader = none }
 
-abbrev pub freshSays : FreshReader → Made
-freshSays (Ready r) = made r
-freshSays (NotMade n) = notMade n
+abbrev pub fresh_says : FreshReader → Made
+fresh_says (Ready r) = made r
+fresh_says (NotMade n) = not_made n

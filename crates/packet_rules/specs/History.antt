@@ -8,8 +8,8 @@ pub record Seen : Type 0 where
   pub packet : Option (List ℕ)
   pub priority : Option (List ℕ)
 
-abbrev pub seenNothing : Seen
-seenNothing = record { packet = none; priority = none }
+abbrev pub seen_nothing : Seen
+seen_nothing = record { packet = none; priority = none }
 
 -- what is there, or else another
 abbrev pub given : {A B : Type 0} → Option A → (A → B) → B → B
@@ -17,31 +17,31 @@ given none f b = b
 given (some a) f b = f a
 
 -- a start: no byte of that packet yet
-abbrev pub seenStart : Seen → Start → Seen
-seenStart k s =
+abbrev pub seen_start : Seen → Start → Seen
+seen_start k s =
     given s.segment (λ n. record { packet = k.packet; priority = some [] }) (record { packet = some []; priority = k.priority })
 
 -- a byte belongs to the priority packet where one is open
-abbrev pub seenByte : Option (List ℕ) → Option (List ℕ) → ℕ → Seen
-seenByte d (some bs) b = record { packet = d; priority = some (bs ++ (b ∷ [])) }
-seenByte (some bs) none b = record { packet = some (bs ++ (b ∷ [])); priority = none }
-seenByte none none b = seenNothing
+abbrev pub seen_byte : Option (List ℕ) → Option (List ℕ) → ℕ → Seen
+seen_byte d (some bs) b = record { packet = d; priority = some (bs ++ (b ∷ [])) }
+seen_byte (some bs) none b = record { packet = some (bs ++ (b ∷ [])); priority = none }
+seen_byte none none b = seen_nothing
 
 -- and so does an end
-abbrev pub seenEnd : Option (List ℕ) → Option (List ℕ) → Seen
-seenEnd d (some bs) = record { packet = d; priority = none }
-seenEnd d none = seenNothing
+abbrev pub seen_end : Option (List ℕ) → Option (List ℕ) → Seen
+seen_end d (some bs) = record { packet = d; priority = none }
+seen_end d none = seen_nothing
 
 -- 7 closes nothing, 6 its own packet, every other one all
-abbrev pub seenViolation : Seen → ℕ → Seen
-seenViolation k n = cond (eqb n 7) k (cond (eqb n 6) (seenEnd k.packet k.priority) seenNothing)
+abbrev pub seen_violation : Seen → ℕ → Seen
+seen_violation k n = cond (eqb n 7) k (cond (eqb n 6) (seen_end k.packet k.priority) seen_nothing)
 
-unfoldable pub seenAfter : Seen → Said → Seen
-seenAfter k s =
-    given s.violation (seenViolation k)
-    (given s.start (seenStart k)
-    (given s.byte (seenByte k.packet k.priority) (given s.end (λ bad. seenEnd k.packet k.priority) k)))
+unfoldable pub seen_after : Seen → Said → Seen
+seen_after k s =
+    given s.violation (seen_violation k)
+    (given s.start (seen_start k)
+    (given s.byte (seen_byte k.packet k.priority) (given s.end (λ bad. seen_end k.packet k.priority) k)))
 
-unfoldable pub seenIn : Seen → List Said → Seen
-seenIn k [] = k
-seenIn k (s ∷ ss) = seenIn (seenAfter k s) ss
+unfoldable pub seen_in : Seen → List Said → Seen
+seen_in k [] = k
+seen_in k (s ∷ ss) = seen_in (seen_after k s) ss

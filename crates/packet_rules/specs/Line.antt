@@ -2,71 +2,71 @@
 use Rattle.std.specs.Prelude.{ℕ, ◌+◌, ◌*◌, ◌≤◌, ◌<◌, ◌≡◌, Bool, false, cond, ◌&&◌, ◌||◌, List, [], ◌∷◌, ◌++◌, map, eqb, ltb, ℤ, length}
 use Rattle.std.proofs.Math.Option.{none, some}
 use Rattle.std.specs.Int.Bits.{bit_xor}
-use Rattle.symbol.specs.Symbols.{dataSymbol, controlSymbol}
+use Rattle.symbol.specs.Symbols.{data_symbol, control_symbol}
 use Rattle.symbol.specs.declared.Symbol.{Symbol}
 use Rattle.character_rules.specs.Answers.{Reading, clean}
-use Rattle.crc.specs.Crc16.{crcOf}
+use Rattle.crc.specs.Crc16.{crc_of}
 use Rattle.packet_rules.specs.declared.Reader.{Reader}
-use Rattle.packet_rules.specs.Answers.{Said, nothing, started, gaveByte, ended, replied}
+use Rattle.packet_rules.specs.Answers.{Said, nothing, started, gave_byte, ended, replied}
 use Rattle.packet_rules.specs.Step.{step_of}
 
 -- ---- the symbols by their names
 
 abbrev pub COM : Symbol
-COM = controlSymbol 0xBC
+COM = control_symbol 0xBC
 
 abbrev pub IDL : Symbol
-IDL = controlSymbol 0x1C
+IDL = control_symbol 0x1C
 
 abbrev pub SPP : Symbol
-SPP = controlSymbol 0x3C
+SPP = control_symbol 0x3C
 
 abbrev pub SDP : Symbol
-SDP = controlSymbol 0x5C
+SDP = control_symbol 0x5C
 
 abbrev pub SLP : Symbol
-SLP = controlSymbol 0xF7
+SLP = control_symbol 0xF7
 
 -- EBP where the mark is bad, else EGP
-abbrev pub endSymbol : Bool → Symbol
-endSymbol bad = cond bad (controlSymbol 0xFE) (controlSymbol 0xFD)
+abbrev pub end_symbol : Bool → Symbol
+end_symbol bad = cond bad (control_symbol 0xFE) (control_symbol 0xFD)
 
 -- ---- from the channel byte to the end symbol, in either kind, and outside packets: IDL, the four symbols COM IDL IDL IDL, and LMPs
 
 -- type 2, parameter 0 (ACK) or 1 (NACK), reserved zero
-abbrev pub isReply : ℕ → ℕ → Bool
-isReply t n = (eqb t 0x20 || eqb t 0x21) && ltb n 16
+abbrev pub is_reply : ℕ → ℕ → Bool
+is_reply t n = (eqb t 0x20 || eqb t 0x21) && ltb n 16
 
 pub data Fill : List Symbol → List Said → Type 0 where
   idl : Fill (IDL ∷ []) (nothing ∷ [])
-  comIdles : Fill (COM ∷ IDL ∷ IDL ∷ IDL ∷ []) (nothing ∷ nothing ∷ nothing ∷ nothing ∷ [])
+  com_idles : Fill (COM ∷ IDL ∷ IDL ∷ IDL ∷ []) (nothing ∷ nothing ∷ nothing ∷ nothing ∷ [])
   reply : (nack : Bool) (n : ℕ) → n < 16
-      → Fill (SLP ∷ dataSymbol (cond nack 0x21 0x20) ∷ dataSymbol n ∷ dataSymbol (bit_xor (cond nack 0x21 0x20) n) ∷ [])
+      → Fill (SLP ∷ data_symbol (cond nack 0x21 0x20) ∷ data_symbol n ∷ data_symbol (bit_xor (cond nack 0x21 0x20) n) ∷ [])
       (nothing ∷ nothing ∷ nothing ∷ replied nack n ∷ [])
-  other : (t n : ℕ) → isReply t n ≡ false
-      → Fill (SLP ∷ dataSymbol t ∷ dataSymbol n ∷ dataSymbol (bit_xor t n) ∷ []) (nothing ∷ nothing ∷ nothing ∷ nothing ∷ [])
+  other : (t n : ℕ) → is_reply t n ≡ false
+      → Fill (SLP ∷ data_symbol t ∷ data_symbol n ∷ data_symbol (bit_xor t n) ∷ []) (nothing ∷ nothing ∷ nothing ∷ nothing ∷ [])
 
 -- ---- a packet's own bytes, and what may stand among them
 
 pub data Inside (Among : List Symbol → List Said → Type 0) : List ℕ → List Symbol → List Said → Type 0 where
   end : Inside Among [] [] []
-  byte : (b : ℕ) {bs : List ℕ} {ss : List Symbol} {es : List Said} → Inside Among bs ss es → Inside Among (b ∷ bs) (dataSymbol b ∷ ss) (gaveByte b ∷ es)
+  byte : (b : ℕ) {bs : List ℕ} {ss : List Symbol} {es : List Said} → Inside Among bs ss es → Inside Among (b ∷ bs) (data_symbol b ∷ ss) (gave_byte b ∷ es)
   among : {fs : List Symbol} {gs : List Said} {bs : List ℕ} {ss : List Symbol} {es : List Said}
       → Among fs gs → Inside Among bs ss es → Inside Among bs (fs ++ ss) (gs ++ es)
 
 -- an end symbol, the opening byte again, and the CRC over the packet's own bytes
 abbrev pub closing : Bool → ℕ → List ℕ → List Symbol
-closing bad opening bytes = endSymbol bad ∷ dataSymbol opening ∷ map dataSymbol (crcOf bytes)
+closing bad opening bytes = end_symbol bad ∷ data_symbol opening ∷ map data_symbol (crc_of bytes)
 
-abbrev pub closingSaid : Bool → List Said
-closingSaid bad = nothing ∷ nothing ∷ nothing ∷ ended bad ∷ []
+abbrev pub closing_said : Bool → List Said
+closing_said bad = nothing ∷ nothing ∷ nothing ∷ ended bad ∷ []
 
 -- SPP, a byte with the segment number in the upper four bits and the channel in the lower, 1 to S bytes
 pub data PriorityLine (S : ℕ) : List Symbol → List Said → Type 0 where
   priority : (channel segment : ℕ) (bytes : List ℕ) (bad : Bool) {ss : List Symbol} {es : List Said}
       → channel < 16 → segment < 16 → 1 ≤ length bytes → length bytes ≤ S → Inside Fill bytes ss es
-      → PriorityLine S (SPP ∷ dataSymbol (16 * segment + channel) ∷ (ss ++ closing bad (16 * segment + channel) bytes))
-      (nothing ∷ started channel (some segment) ∷ (es ++ closingSaid bad))
+      → PriorityLine S (SPP ∷ data_symbol (16 * segment + channel) ∷ (ss ++ closing bad (16 * segment + channel) bytes))
+      (nothing ∷ started channel (some segment) ∷ (es ++ closing_said bad))
 
 -- a priority packet may stand inside a data packet
 pub data Within (S : ℕ) : List Symbol → List Said → Type 0 where
@@ -77,13 +77,13 @@ pub data Within (S : ℕ) : List Symbol → List Said → Type 0 where
 pub data DataLine (S : ℕ) : List Symbol → List Said → Type 0 where
   packet : (channel : ℕ) (bytes : List ℕ) (bad : Bool) {ss : List Symbol} {es : List Said}
       → channel < 256 → 1 ≤ length bytes → Inside (Within S) bytes ss es
-      → DataLine S (SDP ∷ dataSymbol channel ∷ (ss ++ closing bad channel bytes)) (nothing ∷ started channel none ∷ (es ++ closingSaid bad))
+      → DataLine S (SDP ∷ data_symbol channel ∷ (ss ++ closing bad channel bytes)) (nothing ∷ started channel none ∷ (es ++ closing_said bad))
 
 -- outside packets: packets, what may stand among them, and D0.0, which is fill
 pub data Outside (S : ℕ) : List Symbol → List Said → Type 0 where
-  zeros : Outside S (dataSymbol 0 ∷ []) (nothing ∷ [])
+  zeros : Outside S (data_symbol 0 ∷ []) (nothing ∷ [])
   within : {ss : List Symbol} {es : List Said} → Within S ss es → Outside S ss es
-  data-packet : {ss : List Symbol} {es : List Said} → DataLine S ss es → Outside S ss es
+  data_packet : {ss : List Symbol} {es : List Said} → DataLine S ss es → Outside S ss es
 
 -- THE LEGAL LINE: any of them, one after another
 pub data LegalLine (S : ℕ) : List Symbol → List Said → Type 0 where

@@ -2,10 +2,10 @@
 use Rattle.std.specs.Prelude.{ℕ, ◌-◌, ◌/◌, ◌%◌, Bool, true, false, cond, not, ◌&&◌, List, [], ◌∷◌, eqb, ltb, leb, ℤ}
 use Rattle.std.proofs.Math.Option.{Option, none, some}
 use Rattle.refusal.specs.Order.{Check, check, outcome}
-use Rattle.symbol.specs.Symbols.{isSymbol}
+use Rattle.symbol.specs.Symbols.{is_symbol}
 use Rattle.symbol.specs.declared.Symbol.{Symbol}
 use Rattle.character_rules.specs.Answers.{Reading}
-use Rattle.crc.specs.Crc16.{crcStart}
+use Rattle.crc.specs.Crc16.{crc_start}
 use Rattle.packet_rules.specs.declared.Opener.{Opener}
 use Rattle.packet_rules.specs.declared.Opener.TheVariants.{Sdp, Spp, Slp}
 use Rattle.packet_rules.specs.declared.Kind.{Kind}
@@ -19,10 +19,10 @@ use Rattle.packet_rules.specs.declared.Due.TheVariants.{Channel, Opening, Closin
 use Rattle.packet_rules.specs.declared.Phase.{Phase}
 use Rattle.packet_rules.specs.declared.Phase.TheVariants.{Free, Next, Idles, Dropping}
 use Rattle.packet_rules.specs.declared.Reader.{Reader}
-use Rattle.packet_rules.specs.Answers.{Said, nothing, started, gaveByte, ended, replied, violated, refused, Answer}
-use Rattle.packet_rules.specs.State.{outside, fedPriority, fedData, wellFormed}
+use Rattle.packet_rules.specs.Answers.{Said, nothing, started, gave_byte, ended, replied, violated, refused, Answer}
+use Rattle.packet_rules.specs.State.{outside, fed_priority, fed_data, well_formed}
 use Rattle.packet_rules.specs.Symbols.{kind_of}
-use Rattle.packet_rules.specs.Violations.{violationOf}
+use Rattle.packet_rules.specs.Violations.{violation_of}
 
 abbrev pub answer : Said → DataPacket → PriorityPacket → Phase → Reader → Answer
 answer said d p w r = record { said = said; reader = record { size = r.size; packet = d; priority = p; phase = w } }
@@ -30,45 +30,45 @@ answer said d p w r = record { said = said; reader = record { size = r.size; pac
 -- ---- a symbol in its place, where no sequence is begun
 
 -- user bytes are given as they come; outside packets D0.0 is fill and is dropped
-abbrev pub userByte : DataPacket → PriorityPacket → ℕ → Reader → Answer
-userByte d p b r = answer (cond (outside d p) nothing (gaveByte b)) (fedData d p b) (fedPriority p b) Free r
+abbrev pub user_byte : DataPacket → PriorityPacket → ℕ → Reader → Answer
+user_byte d p b r = answer (cond (outside d p) nothing (gave_byte b)) (fed_data d p b) (fed_priority p b) Free r
 
 -- what comes after a symbol that opens
-abbrev pub dueAfter : Opener → Due
-dueAfter Sdp = Channel
-dueAfter Spp = Opening
-dueAfter Slp = LmpType
+abbrev pub due_after : Opener → Due
+due_after Sdp = Channel
+due_after Spp = Opening
+due_after Slp = LmpType
 
-abbrev pub freeMove : Kind → Reader → Answer
-freeMove (Data b) r = userByte r.packet r.priority b r
-freeMove Idl r = answer nothing r.packet r.priority Free r
-freeMove Com r = answer nothing r.packet r.priority (Idles 3) r
-freeMove (Opens o) r = answer nothing r.packet r.priority (Next (dueAfter o)) r
-freeMove (Closes bad) r = answer nothing r.packet r.priority (Next (Closing bad)) r
-freeMove NoPlace r = answer nothing r.packet r.priority Free r
-freeMove Unsupported r = answer nothing r.packet r.priority Free r
+abbrev pub free_move : Kind → Reader → Answer
+free_move (Data b) r = user_byte r.packet r.priority b r
+free_move Idl r = answer nothing r.packet r.priority Free r
+free_move Com r = answer nothing r.packet r.priority (Idles 3) r
+free_move (Opens o) r = answer nothing r.packet r.priority (Next (due_after o)) r
+free_move (Closes bad) r = answer nothing r.packet r.priority (Next (Closing bad)) r
+free_move NoPlace r = answer nothing r.packet r.priority Free r
+free_move Unsupported r = answer nothing r.packet r.priority Free r
 
 -- ---- the byte that is due
 
 -- the packet to which an end belongs is closed
-abbrev pub closesOwn : Said → PriorityPacket → Reader → Answer
-closesOwn said (InPriority o n c) r = answer said r.packet NoPriority Free r
-closesOwn said NoPriority r = answer said NoData NoPriority Free r
+abbrev pub closes_own : Said → PriorityPacket → Reader → Answer
+closes_own said (InPriority o n c) r = answer said r.packet NoPriority Free r
+closes_own said NoPriority r = answer said NoData NoPriority Free r
 
 -- type 2 is retry: parameter 0 is ACK, 1 NACK; a nonzero reserved field, another type or another parameter is dropped
-abbrev pub lmpSaid : ℕ → ℕ → Said
-lmpSaid t n = cond (eqb (t / 16) 2 && (ltb (t % 16) 2 && eqb (n / 16) 0)) (replied (eqb (t % 16) 1) (n % 16)) nothing
+abbrev pub lmp_said : ℕ → ℕ → Said
+lmp_said t n = cond (eqb (t / 16) 2 && (ltb (t % 16) 2 && eqb (n / 16) 0)) (replied (eqb (t % 16) 1) (n % 16)) nothing
 
 -- a start comes at the channel byte (the byte after SPP), an end at the second CRC byte, an LMP at its check byte
-abbrev pub dueMove : Due → ℕ → Reader → Answer
-dueMove Channel b r = answer (started b none) (InData b false crcStart) r.priority Free r
-dueMove Opening b r = answer (started (b % 16) (some (b / 16))) r.packet (InPriority b 0 crcStart) Free r
-dueMove (Closing bad) b r = answer nothing r.packet r.priority (Next (FirstCrc bad)) r
-dueMove (FirstCrc bad) b r = answer nothing r.packet r.priority (Next (SecondCrc bad b)) r
-dueMove (SecondCrc bad a) b r = closesOwn (ended bad) r.priority r
-dueMove LmpType b r = answer nothing r.packet r.priority (Next (LmpNumber b)) r
-dueMove (LmpNumber t) b r = answer nothing r.packet r.priority (Next (LmpCheck t b)) r
-dueMove (LmpCheck t n) b r = answer (lmpSaid t n) r.packet r.priority Free r
+abbrev pub due_move : Due → ℕ → Reader → Answer
+due_move Channel b r = answer (started b none) (InData b false crc_start) r.priority Free r
+due_move Opening b r = answer (started (b % 16) (some (b / 16))) r.packet (InPriority b 0 crc_start) Free r
+due_move (Closing bad) b r = answer nothing r.packet r.priority (Next (FirstCrc bad)) r
+due_move (FirstCrc bad) b r = answer nothing r.packet r.priority (Next (SecondCrc bad b)) r
+due_move (SecondCrc bad a) b r = closes_own (ended bad) r.priority r
+due_move LmpType b r = answer nothing r.packet r.priority (Next (LmpNumber b)) r
+due_move (LmpNumber t) b r = answer nothing r.packet r.priority (Next (LmpCheck t b)) r
+due_move (LmpCheck t n) b r = answer (lmp_said t n) r.packet r.priority Free r
 
 -- the byte of a data symbol
 abbrev pub byte_of : Kind → ℕ
@@ -83,13 +83,13 @@ byte_of Unsupported = 0
 -- ---- a symbol in its place, in each phase
 
 -- COM is followed by three IDL
-abbrev pub idlesAfter : ℕ → Phase
-idlesAfter n = cond (leb n 1) Free (Idles (n - 1))
+abbrev pub idles_after : ℕ → Phase
+idles_after n = cond (leb n 1) Free (Idles (n - 1))
 
 abbrev pub move : Phase → Kind → Reader → Answer
-move Free k r = freeMove k r
-move (Next due) k r = dueMove due (byte_of k) r
-move (Idles n) k r = answer nothing r.packet r.priority (idlesAfter n) r
+move Free k r = free_move k r
+move (Next due) k r = due_move due (byte_of k) r
+move (Idles n) k r = answer nothing r.packet r.priority (idles_after n) r
 move Dropping k r = answer nothing r.packet r.priority Dropping r
 
 -- ---- a violation
@@ -98,7 +98,7 @@ move Dropping k r = answer nothing r.packet r.priority Dropping r
 unfoldable pub broken : ℕ → Reader → Answer
 broken n r =
     cond (eqb n 7) (answer (violated n) r.packet r.priority Free r)
-    (cond (eqb n 6) (closesOwn (violated n) r.priority r)
+    (cond (eqb n 6) (closes_own (violated n) r.priority r)
     (answer (violated n) NoData NoPriority Dropping r))
 
 -- ---- dropping: no event until a clean SDP, SPP or SLP
@@ -107,7 +107,7 @@ abbrev pub awakens : Kind → Phase
 awakens (Data b) = Dropping
 awakens Idl = Dropping
 awakens Com = Dropping
-awakens (Opens o) = Next (dueAfter o)
+awakens (Opens o) = Next (due_after o)
 awakens (Closes bad) = Dropping
 awakens NoPlace = Dropping
 awakens Unsupported = Dropping
@@ -115,11 +115,11 @@ awakens Unsupported = Dropping
 unfoldable pub dropped : Reading → Kind → Reader → Answer
 dropped g k r = answer nothing r.packet r.priority (cond (eqb g.violation 0) (awakens k) Dropping) r
 
-abbrev pub isDropping : Phase → Bool
-isDropping Free = false
-isDropping (Next due) = false
-isDropping (Idles n) = false
-isDropping Dropping = true
+abbrev pub is_dropping : Phase → Bool
+is_dropping Free = false
+is_dropping (Next due) = false
+is_dropping (Idles n) = false
+is_dropping Dropping = true
 
 -- ---- THE STEP
 
@@ -127,28 +127,28 @@ abbrev pub judged : ℕ → Kind → Reader → Answer
 judged n k r = cond (eqb n 0) (move r.phase k r) (broken n r)
 
 unfoldable pub read_of : Reader → Reading → Kind → Answer
-read_of r g k = cond (isDropping r.phase) (dropped g k r) (judged (violationOf r g k) k r)
+read_of r g k = cond (is_dropping r.phase) (dropped g k r) (judged (violation_of r g k) k r)
 
 -- an invalid result has no symbol, and nothing beside it is looked at
-abbrev pub kindIn : Option Symbol → Kind
-kindIn none = NoPlace
-kindIn (some s) = kind_of s
+abbrev pub kind_in : Option Symbol → Kind
+kind_in none = NoPlace
+kind_in (some s) = kind_of s
 
-abbrev pub symbolIn : Option Symbol → Bool
-symbolIn none = true
-symbolIn (some s) = isSymbol s
+abbrev pub symbol_in : Option Symbol → Bool
+symbol_in none = true
+symbol_in (some s) = is_symbol s
 
 -- every character result has a new disparity; a character that was refused has none
-abbrev pub isResult : Option ℤ → Bool
-isResult none = false
-isResult (some d) = true
+abbrev pub is_result : Option ℤ → Bool
+is_result none = false
+is_result (some d) = true
 
 -- refusal 1: a state that breaks its rule; what is no character result; a control symbol that is none of the twelve
-abbrev pub stepChecks : Reader → Reading → List Check
-stepChecks r g = check 1 (not (wellFormed r)) ∷ check 1 (not (isResult g.disparity)) ∷ check 1 (not (symbolIn g.symbol)) ∷ []
+abbrev pub step_checks : Reader → Reading → List Check
+step_checks r g = check 1 (not (well_formed r)) ∷ check 1 (not (is_result g.disparity)) ∷ check 1 (not (symbol_in g.symbol)) ∷ []
 
-abbrev pub refusedStep : Reader → ℕ → Answer
-refusedStep r n = record { said = refused n; reader = r }
+abbrev pub refused_step : Reader → ℕ → Answer
+refused_step r n = record { said = refused n; reader = r }
 
 unfoldable pub step_of : Reader → Reading → Answer
-step_of r g = outcome (stepChecks r g) (refusedStep r) (read_of r g (kindIn g.symbol))
+step_of r g = outcome (step_checks r g) (refused_step r) (read_of r g (kind_in g.symbol))

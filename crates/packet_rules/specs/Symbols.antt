@@ -6,8 +6,8 @@ use Rattle.packet_rules.specs.declared.Kind.{Kind}
 use Rattle.packet_rules.specs.declared.Kind.TheVariants.{Data, Idl, Com, Opens, Closes, NoPlace, Unsupported}
 
 -- of the twelve: COM, IDL, SPP, SDP, SLP, EGP, EBP, K28.7; the other four are ALN, SUP, CDP and CPP
-unfoldable pub controlKind : ℕ → Kind
-controlKind b =
+unfoldable pub control_kind : ℕ → Kind
+control_kind b =
     cond (eqb b 0xBC) Com
     (cond (eqb b 0x1C) Idl
     (cond (eqb b 0x3C) (Opens Spp)
@@ -18,43 +18,43 @@ controlKind b =
     (cond (eqb b 0xFC) Unsupported NoPlace)))))))
 
 unfoldable pub kind_of : Symbol → Kind
-kind_of s = cond s.control (controlKind s.byte) (Data s.byte)
+kind_of s = cond s.control (control_kind s.byte) (Data s.byte)
 
 -- ---- tests of a kind
 
-abbrev pub isIdl : Kind → Bool
-isIdl (Data b) = false
-isIdl Idl = true
-isIdl Com = false
-isIdl (Opens o) = false
-isIdl (Closes bad) = false
-isIdl NoPlace = false
-isIdl Unsupported = false
+abbrev pub is_idl : Kind → Bool
+is_idl (Data b) = false
+is_idl Idl = true
+is_idl Com = false
+is_idl (Opens o) = false
+is_idl (Closes bad) = false
+is_idl NoPlace = false
+is_idl Unsupported = false
 
-abbrev pub isUnsupported : Kind → Bool
-isUnsupported (Data b) = false
-isUnsupported Idl = false
-isUnsupported Com = false
-isUnsupported (Opens o) = false
-isUnsupported (Closes bad) = false
-isUnsupported NoPlace = false
-isUnsupported Unsupported = true
+abbrev pub is_unsupported : Kind → Bool
+is_unsupported (Data b) = false
+is_unsupported Idl = false
+is_unsupported Com = false
+is_unsupported (Opens o) = false
+is_unsupported (Closes bad) = false
+is_unsupported NoPlace = false
+is_unsupported Unsupported = true
 
-abbrev pub isEnd : Kind → Bool
-isEnd (Data b) = false
-isEnd Idl = false
-isEnd Com = false
-isEnd (Opens o) = false
-isEnd (Closes bad) = true
-isEnd NoPlace = false
-isEnd Unsupported = false
+abbrev pub is_end : Kind → Bool
+is_end (Data b) = false
+is_end Idl = false
+is_end Com = false
+is_end (Opens o) = false
+is_end (Closes bad) = true
+is_end NoPlace = false
+is_end Unsupported = false
 
 -- data for whose byte something holds
-abbrev pub isData : Kind → (ℕ → Bool) → Bool
-isData (Data b) holds = holds b
-isData Idl holds = false
-isData Com holds = false
-isData (Opens o) holds = false
-isData (Closes bad) holds = false
-isData NoPlace holds = false
-isData Unsupported holds = false
+abbrev pub is_data : Kind → (ℕ → Bool) → Bool
+is_data (Data b) holds = holds b
+is_data Idl holds = false
+is_data Com holds = false
+is_data (Opens o) holds = false
+is_data (Closes bad) holds = false
+is_data NoPlace holds = false
+is_data Unsupported holds = false

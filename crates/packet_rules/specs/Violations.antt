@@ -2,7 +2,7 @@
 use Rattle.std.specs.Prelude.{ℕ, suc, Bool, true, false, cond, not, ◌&&◌, List, [], ◌∷◌, eqb, leb, get_or}
 use Rattle.std.specs.Int.Bits.{bit_xor}
 use Rattle.character_rules.specs.Answers.{Reading}
-use Rattle.crc.specs.Crc16.{checkBytesOf}
+use Rattle.crc.specs.Crc16.{check_bytes_of}
 use Rattle.packet_rules.specs.declared.Opener.TheVariants.{Sdp, Spp, Slp}
 use Rattle.packet_rules.specs.declared.Kind.{Kind}
 use Rattle.packet_rules.specs.declared.Kind.TheVariants.{Data, Idl, Com, Opens, Closes, NoPlace, Unsupported}
@@ -14,8 +14,8 @@ use Rattle.packet_rules.specs.declared.Due.TheVariants.{Channel, Opening, Closin
 use Rattle.packet_rules.specs.declared.Phase.{Phase}
 use Rattle.packet_rules.specs.declared.Phase.TheVariants.{Free, Next, Idles, Dropping}
 use Rattle.packet_rules.specs.declared.Reader.{Reader}
-use Rattle.packet_rules.specs.State.{noPriority, outside, hasByte, openingByte, registerIn}
-use Rattle.packet_rules.specs.Symbols.{isIdl, isUnsupported, isEnd, isData}
+use Rattle.packet_rules.specs.State.{no_priority, outside, has_byte, opening_byte, register_in}
+use Rattle.packet_rules.specs.Symbols.{is_idl, is_unsupported, is_end, is_data}
 
 -- where no sequence is begun
 abbrev pub free : Phase → Bool → Bool
@@ -34,83 +34,83 @@ due Dropping holds = false
 -- ---- 4: who may not stand where
 
 -- neither kind stands in its own kind, nor data in priority; an end belongs to a packet; ALN, SUP, CDP and CPP never
-abbrev pub mayNotStand : Kind → DataPacket → PriorityPacket → Bool
-mayNotStand (Data b) d p = false
-mayNotStand Idl d p = false
-mayNotStand Com d p = false
-mayNotStand (Opens Sdp) d p = not (outside d p)
-mayNotStand (Opens Spp) d p = not (noPriority p)
-mayNotStand (Opens Slp) d p = false
-mayNotStand (Closes bad) d p = outside d p
-mayNotStand NoPlace d p = true
-mayNotStand Unsupported d p = false
+abbrev pub may_not_stand : Kind → DataPacket → PriorityPacket → Bool
+may_not_stand (Data b) d p = false
+may_not_stand Idl d p = false
+may_not_stand Com d p = false
+may_not_stand (Opens Sdp) d p = not (outside d p)
+may_not_stand (Opens Spp) d p = not (no_priority p)
+may_not_stand (Opens Slp) d p = false
+may_not_stand (Closes bad) d p = outside d p
+may_not_stand NoPlace d p = true
+may_not_stand Unsupported d p = false
 
 -- and no sequence is broken into: a byte that is due is data, and after COM it is IDL
-abbrev pub outOfPlace : Phase → Kind → DataPacket → PriorityPacket → Bool
-outOfPlace Free k d p = mayNotStand k d p
-outOfPlace (Next due) k d p = not (isData k (λ b. true))
-outOfPlace (Idles n) k d p = not (isIdl k)
-outOfPlace Dropping k d p = false
+abbrev pub out_of_place : Phase → Kind → DataPacket → PriorityPacket → Bool
+out_of_place Free k d p = may_not_stand k d p
+out_of_place (Next due) k d p = not (is_data k (λ b. true))
+out_of_place (Idles n) k d p = not (is_idl k)
+out_of_place Dropping k d p = false
 
 -- ---- 5, 6, 7: a due byte that is not the one that it must be
 
-abbrev pub closingDiffers : ℕ → Due → ℕ → Bool
-closingDiffers opening Channel b = false
-closingDiffers opening Opening b = false
-closingDiffers opening (Closing bad) b = not (eqb b opening)
-closingDiffers opening (FirstCrc bad) b = false
-closingDiffers opening (SecondCrc bad a) b = false
-closingDiffers opening LmpType b = false
-closingDiffers opening (LmpNumber t) b = false
-closingDiffers opening (LmpCheck t n) b = false
+abbrev pub closing_differs : ℕ → Due → ℕ → Bool
+closing_differs opening Channel b = false
+closing_differs opening Opening b = false
+closing_differs opening (Closing bad) b = not (eqb b opening)
+closing_differs opening (FirstCrc bad) b = false
+closing_differs opening (SecondCrc bad a) b = false
+closing_differs opening LmpType b = false
+closing_differs opening (LmpNumber t) b = false
+closing_differs opening (LmpCheck t n) b = false
 
 -- the two bytes are compared with what a writer would place
-abbrev pub rightCrc : ℕ → ℕ → ℕ → Bool
-rightCrc register a b = eqb a (get_or (checkBytesOf register) 0 0) && eqb b (get_or (checkBytesOf register) 1 0)
+abbrev pub right_crc : ℕ → ℕ → ℕ → Bool
+right_crc register a b = eqb a (get_or (check_bytes_of register) 0 0) && eqb b (get_or (check_bytes_of register) 1 0)
 
-abbrev pub crcDiffers : ℕ → Due → ℕ → Bool
-crcDiffers register Channel b = false
-crcDiffers register Opening b = false
-crcDiffers register (Closing bad) b = false
-crcDiffers register (FirstCrc bad) b = false
-crcDiffers register (SecondCrc bad a) b = not (rightCrc register a b)
-crcDiffers register LmpType b = false
-crcDiffers register (LmpNumber t) b = false
-crcDiffers register (LmpCheck t n) b = false
+abbrev pub crc_differs : ℕ → Due → ℕ → Bool
+crc_differs register Channel b = false
+crc_differs register Opening b = false
+crc_differs register (Closing bad) b = false
+crc_differs register (FirstCrc bad) b = false
+crc_differs register (SecondCrc bad a) b = not (right_crc register a b)
+crc_differs register LmpType b = false
+crc_differs register (LmpNumber t) b = false
+crc_differs register (LmpCheck t n) b = false
 
 -- the manual's BIP-8: the exclusive-or of the two bytes before it
-abbrev pub lmpDiffers : Due → ℕ → Bool
-lmpDiffers Channel b = false
-lmpDiffers Opening b = false
-lmpDiffers (Closing bad) b = false
-lmpDiffers (FirstCrc bad) b = false
-lmpDiffers (SecondCrc bad a) b = false
-lmpDiffers LmpType b = false
-lmpDiffers (LmpNumber t) b = false
-lmpDiffers (LmpCheck t n) b = not (eqb b (bit_xor t n))
+abbrev pub lmp_differs : Due → ℕ → Bool
+lmp_differs Channel b = false
+lmp_differs Opening b = false
+lmp_differs (Closing bad) b = false
+lmp_differs (FirstCrc bad) b = false
+lmp_differs (SecondCrc bad a) b = false
+lmp_differs LmpType b = false
+lmp_differs (LmpNumber t) b = false
+lmp_differs (LmpCheck t n) b = not (eqb b (bit_xor t n))
 
 -- ---- 10: S bytes have come
-abbrev pub isFull : ℕ → PriorityPacket → Bool
-isFull s NoPriority = false
-isFull s (InPriority o n c) = leb s n
+abbrev pub is_full : ℕ → PriorityPacket → Bool
+is_full s NoPriority = false
+is_full s (InPriority o n c) = leb s n
 
 -- ---- 3 to 10, and all ten, in their order
 
 abbrev pub conditions : Reader → Kind → List Bool
 conditions r k =
-    isUnsupported k
-    ∷ outOfPlace r.phase k r.packet r.priority
-    ∷ due r.phase (λ d. isData k (closingDiffers (openingByte r.packet r.priority) d))
-    ∷ due r.phase (λ d. isData k (crcDiffers (registerIn r.packet r.priority) d))
-    ∷ due r.phase (λ d. isData k (lmpDiffers d))
-    ∷ free r.phase (isEnd k && not (hasByte r.packet r.priority))
-    ∷ free r.phase (isData k (λ b. outside r.packet r.priority && not (eqb b 0)))
-    ∷ free r.phase (isData k (λ b. isFull r.size r.priority))
+    is_unsupported k
+    ∷ out_of_place r.phase k r.packet r.priority
+    ∷ due r.phase (λ d. is_data k (closing_differs (opening_byte r.packet r.priority) d))
+    ∷ due r.phase (λ d. is_data k (crc_differs (register_in r.packet r.priority) d))
+    ∷ due r.phase (λ d. is_data k (lmp_differs d))
+    ∷ free r.phase (is_end k && not (has_byte r.packet r.priority))
+    ∷ free r.phase (is_data k (λ b. outside r.packet r.priority && not (eqb b 0)))
+    ∷ free r.phase (is_data k (λ b. is_full r.size r.priority))
     ∷ []
 
 -- 1 invalid, 2 wrong disparity: what the character result says
-abbrev pub tenConditions : Reader → Reading → Kind → List Bool
-tenConditions r g k = eqb g.violation 1 ∷ eqb g.violation 2 ∷ conditions r k
+abbrev pub ten_conditions : Reader → Reading → Kind → List Bool
+ten_conditions r g k = eqb g.violation 1 ∷ eqb g.violation 2 ∷ conditions r k
 
 -- the place, counted from n, of the first that holds; 0 where none does
 abbrev pub lowest : ℕ → List Bool → ℕ
@@ -118,5 +118,5 @@ lowest n [] = 0
 lowest n (b ∷ bs) = cond b n (lowest (suc n) bs)
 
 -- the violation that a character result is; 0: none
-unfoldable pub violationOf : Reader → Reading → Kind → ℕ
-violationOf r g k = lowest 1 (tenConditions r g k)
+unfoldable pub violation_of : Reader → Reading → Kind → ℕ
+violation_of r g k = lowest 1 (ten_conditions r g k)

@@ -11,30 +11,30 @@ use Rattle.packet_rules.specs.declared.Event.{Event}
 use Rattle.packet_rules.specs.declared.Event.TheVariants.{Nothing, Lmp, Violation}
 use Rattle.packet_rules.specs.declared.Reader.{Reader}
 use Rattle.packet_rules.specs.declared.Step.{Step}
-use Rattle.packet_rules.specs.State.{openingByte}
-use Rattle.packet_answers.specs.Answers.{moved_to, violatedTo, closedTo, startedData, startedPriority}
+use Rattle.packet_rules.specs.State.{opening_byte}
+use Rattle.packet_answers.specs.Answers.{moved_to, violated_to, closed_to, started_data, started_priority}
 use Rattle.packet_ends.specs.Ends.{end_of}
 
 -- ---- the byte that a begun sequence is due
 
-abbrev pub lmpOf : ℕ → ℕ → Event
-lmpOf t n = cond (ltb n 16) (cond (eqb t 0x20) (Lmp false n) (cond (eqb t 0x21) (Lmp true n) Nothing)) Nothing
+abbrev pub lmp_of : ℕ → ℕ → Event
+lmp_of t n = cond (ltb n 16) (cond (eqb t 0x20) (Lmp false n) (cond (eqb t 0x21) (Lmp true n) Nothing)) Nothing
 
-unfoldable pub dueOf : Due → ℕ → Reader → Step
-dueOf Channel b r = startedData b r
-dueOf Opening b r = startedPriority b r
-dueOf (Closing bad) b r = cond (eqb b (openingByte r.packet r.priority)) (moved_to Nothing (Next (FirstCrc bad)) r) (violatedTo 5 r)
-dueOf (FirstCrc bad) b r = moved_to Nothing (Next (SecondCrc bad b)) r
-dueOf (SecondCrc bad a) b r = closedTo (end_of r.packet r.priority bad a b) r r.priority
-dueOf LmpType b r = moved_to Nothing (Next (LmpNumber b)) r
-dueOf (LmpNumber t) b r = moved_to Nothing (Next (LmpCheck t b)) r
-dueOf (LmpCheck t n) b r = moved_to (cond (eqb b (bit_xor t n)) (lmpOf t n) (Violation 7)) Free r
+unfoldable pub due_of : Due → ℕ → Reader → Step
+due_of Channel b r = started_data b r
+due_of Opening b r = started_priority b r
+due_of (Closing bad) b r = cond (eqb b (opening_byte r.packet r.priority)) (moved_to Nothing (Next (FirstCrc bad)) r) (violated_to 5 r)
+due_of (FirstCrc bad) b r = moved_to Nothing (Next (SecondCrc bad b)) r
+due_of (SecondCrc bad a) b r = closed_to (end_of r.packet r.priority bad a b) r r.priority
+due_of LmpType b r = moved_to Nothing (Next (LmpNumber b)) r
+due_of (LmpNumber t) b r = moved_to Nothing (Next (LmpCheck t b)) r
+due_of (LmpCheck t n) b r = moved_to (cond (eqb b (bit_xor t n)) (lmp_of t n) (Violation 7)) Free r
 
-unfoldable pub seqOf : Due → Kind → Reader → Step
-seqOf due (Data b) r = dueOf due b r
-seqOf due Idl r = violatedTo 4 r
-seqOf due Com r = violatedTo 4 r
-seqOf due (Opens o) r = violatedTo 4 r
-seqOf due (Closes bad) r = violatedTo 4 r
-seqOf due NoPlace r = violatedTo 4 r
-seqOf due Unsupported r = violatedTo 3 r
+unfoldable pub seq_of : Due → Kind → Reader → Step
+seq_of due (Data b) r = due_of due b r
+seq_of due Idl r = violated_to 4 r
+seq_of due Com r = violated_to 4 r
+seq_of due (Opens o) r = violated_to 4 r
+seq_of due (Closes bad) r = violated_to 4 r
+seq_of due NoPlace r = violated_to 4 r
+seq_of due Unsupported r = violated_to 3 r

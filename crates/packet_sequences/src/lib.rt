@@ -1,12 +1,12 @@
 // A symbol where a sequence is begun.
 ghost use Rattle.std.specs.Prelude.{◌≡◌};
-ghost use Rattle.packet_sequences.specs.Sequences.{lmpOf, dueOf, seqOf};
+ghost use Rattle.packet_sequences.specs.Sequences.{lmp_of, due_of, seq_of};
 
 use packet_rules::{Due, Event, Kind, Phase, Reader, Step};
 
 // What a right LMP gives: its first two bytes, type and parameter, and reserved and number.
 fn lmp(t: u8, n: u8) -> Event
-    ensures { result ≡ lmpOf t n }
+    ensures { result ≡ lmp_of t n }
 {
     if n < 16 {
         match t {
@@ -26,7 +26,7 @@ fn lmp(t: u8, n: u8) -> Event
 }
 
 fn due_byte(r: Reader, due: Due, b: u8) -> Step
-    ensures { result ≡ dueOf due b r }
+    ensures { result ≡ due_of due b r }
 {
     let d = r.packet;
     let p = r.priority;
@@ -67,7 +67,7 @@ fn due_byte(r: Reader, due: Due, b: u8) -> Step
 }
 
 pub fn in_sequence(r: Reader, due: Due, k: Kind) -> Step
-    ensures { result ≡ seqOf due k r }
+    ensures { result ≡ seq_of due k r }
 {
     match k {
         Kind::Data(b) => due_byte(r, due, b),

@@ -1,18 +1,18 @@
 // The state's written rule.
 ghost use Rattle.std.specs.Prelude.{◌≡◌, eqb};
-ghost use Rattle.crc.specs.Crc16.{crcStart};
-ghost use Rattle.packet_rules.specs.State.{dataRule, priorityRule, dueRule, phaseRule, wellFormed};
+ghost use Rattle.crc.specs.Crc16.{crc_start};
+ghost use Rattle.packet_rules.specs.State.{data_rule, priority_rule, due_rule, phase_rule, well_formed};
 
 use packet_rules::{DataPacket, Due, Phase, PriorityPacket, Reader};
 
 fn is_start(register: u16) -> bool
-    ensures { result ≡ eqb register crcStart }
+    ensures { result ≡ eqb register crc_start }
 {
     register == crc::start()
 }
 
 fn data_rule(d: DataPacket) -> bool
-    ensures { result ≡ dataRule d }
+    ensures { result ≡ data_rule d }
 {
     match d {
         DataPacket::NoData => true,
@@ -25,7 +25,7 @@ fn data_rule(d: DataPacket) -> bool
 }
 
 fn priority_rule(size: u16, p: PriorityPacket) -> bool
-    ensures { result ≡ priorityRule size p }
+    ensures { result ≡ priority_rule size p }
 {
     match p {
         PriorityPacket::NoPriority => true,
@@ -44,7 +44,7 @@ fn priority_rule(size: u16, p: PriorityPacket) -> bool
 }
 
 fn due_rule(d: DataPacket, p: PriorityPacket, due: Due) -> bool
-    ensures { result ≡ dueRule d p due }
+    ensures { result ≡ due_rule d p due }
 {
     match due {
         Due::Channel => packet_open::is_outside(d, p),
@@ -59,7 +59,7 @@ fn due_rule(d: DataPacket, p: PriorityPacket, due: Due) -> bool
 }
 
 fn phase_rule(d: DataPacket, p: PriorityPacket, phase: Phase) -> bool
-    ensures { result ≡ phaseRule d p phase }
+    ensures { result ≡ phase_rule d p phase }
 {
     match phase {
         Phase::Free => true,
@@ -71,7 +71,7 @@ fn phase_rule(d: DataPacket, p: PriorityPacket, phase: Phase) -> bool
 
 // The written rule, which every state handed out keeps.
 pub fn is_well_formed(r: Reader) -> bool
-    ensures { result ≡ wellFormed r }
+    ensures { result ≡ well_formed r }
 {
     let size = r.size;
     let d = r.packet;

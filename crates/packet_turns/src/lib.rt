@@ -1,11 +1,11 @@
 // A symbol where no sequence is begun.
 ghost use Rattle.std.specs.Prelude.{◌≡◌};
-ghost use Rattle.packet_turns.specs.Turns.{byteIn, byteInData, end_in, mayStart, freeOf};
+ghost use Rattle.packet_turns.specs.Turns.{byte_in, byte_in_data, end_in, may_start, free_of};
 
 use packet_rules::{DataPacket, Due, Event, Kind, Opener, Phase, PriorityPacket, Reader, Step};
 
 fn data_byte(r: Reader, d: DataPacket, b: u8) -> Step
-    ensures { result ≡ byteInData d b r }
+    ensures { result ≡ byte_in_data d b r }
 {
     match d {
         DataPacket::InData {
@@ -38,7 +38,7 @@ fn data_byte(r: Reader, d: DataPacket, b: u8) -> Step
 }
 
 fn user_byte(r: Reader, d: DataPacket, p: PriorityPacket, b: u8) -> Step
-    ensures { result ≡ byteIn d p b r }
+    ensures { result ≡ byte_in d p b r }
 {
     let size = r.size;
     match p {
@@ -87,7 +87,7 @@ fn end_symbol(r: Reader, d: DataPacket, p: PriorityPacket, bad: bool) -> Step
 }
 
 fn may_start(o: Opener, d: DataPacket, p: PriorityPacket) -> bool
-    ensures { result ≡ mayStart o d p }
+    ensures { result ≡ may_start o d p }
 {
     match o {
         Opener::Sdp => packet_open::is_outside(d, p),
@@ -97,7 +97,7 @@ fn may_start(o: Opener, d: DataPacket, p: PriorityPacket) -> bool
 }
 
 pub fn free(r: Reader, k: Kind) -> Step
-    ensures { result ≡ freeOf k r }
+    ensures { result ≡ free_of k r }
 {
     let d = r.packet;
     let p = r.priority;

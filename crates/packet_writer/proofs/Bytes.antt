@@ -10,59 +10,59 @@ use lib.IntN.{ℤ}
 use lib.ListN.{length, take, drop, length-drop}
 use lib.Seq.{take_all, drop-drop, drop-length}
 use Rattle.laws.proofs.Bools.{T_true}
-use Rattle.laws.proofs.Cases.{some-is-not-none}
-use Rattle.symbol.specs.Symbols.{dataSymbol}
-use Rattle.character_rules.specs.Disparity.{isDisparity}
-use Rattle.character_rules.specs.Answers.{RunWriting, runWritten, notRunWritten}
-use Rattle.character_rules.specs.Writing.{runCharacters, runEnd, runWriting, runStored, charactersOf, closingOf}
+use Rattle.laws.proofs.Cases.{some_is_not_none}
+use Rattle.symbol.specs.Symbols.{data_symbol}
+use Rattle.character_rules.specs.Disparity.{is_disparity}
+use Rattle.character_rules.specs.Answers.{RunWriting, run_written, not_run_written}
+use Rattle.character_rules.specs.Writing.{run_characters, run_end, run_writing, run_stored, characters_of, closing_of}
 use Rattle.character_rules.proofs.WriteLaws.{write_done}
 use Rattle.packet_writer.specs.declared.Place.{Place}
 use Rattle.packet_writer.specs.Writing.{Wrote}
-use Rattle.packet_writer.proofs.Turns.{length-map}
+use Rattle.packet_writer.proofs.Turns.{length_map}
 
-module _ (p : Place) (bs old : List ℕ) (room : p.at + length bs ≤ length old) (t : T (isDisparity p.disparity)) where
+module _ (p : Place) (bs old : List ℕ) (room : p.at + length bs ≤ length old) (t : T (is_disparity p.disparity)) where
   abbrev past : List ℕ
   past = drop p.at old
 
   abbrev pub part : List ℕ
   part = take (length old - p.at) past
 
-  part-is : part ≡ past
-  part-is = take_all (length old - p.at) past (omega (arith, length-drop p.at old))
+  part_is : part ≡ past
+  part_is = take_all (length old - p.at) past (omega (arith, length-drop p.at old))
 
-  nothing-after : drop (length old - p.at) past ≡ []
-  nothing-after = ap (λ (k : ℕ). drop k past) (sym (length-drop p.at old)) ∙ drop-length past
+  nothing_after : drop (length old - p.at) past ≡ []
+  nothing_after = ap (λ (k : ℕ). drop k past) (sym (length-drop p.at old)) ∙ drop-length past
 
-  done : (runWritten (runEnd bs p.disparity) ≡ runWriting bs p.disparity (length part))
-      × (runCharacters bs p.disparity ++ drop (length bs) part ≡ runStored bs p.disparity part)
+  done : (run_written (run_end bs p.disparity) ≡ run_writing bs p.disparity (length part))
+      × (run_characters bs p.disparity ++ drop (length bs) part ≡ run_stored bs p.disparity part)
   done =
-      write_done bs p.disparity part (T_true (isDisparity p.disparity) t)
-      (omega (arith, room, length-drop p.at old, ap (λ (l : List ℕ). length l) part-is))
+      write_done bs p.disparity part (T_true (is_disparity p.disparity) t)
+      (omega (arith, room, length-drop p.at old, ap (λ (l : List ℕ). length l) part_is))
 
-  line : (ys : List ℕ) → ys ≡ runStored bs p.disparity part
+  line : (ys : List ℕ) → ys ≡ run_stored bs p.disparity part
       → take p.at old ++ (ys ++ drop (length old - p.at) past)
-      ≡ take p.at old ++ (charactersOf (map dataSymbol bs) p.disparity ++ drop (p.at + length (map dataSymbol bs)) old)
+      ≡ take p.at old ++ (characters_of (map data_symbol bs) p.disparity ++ drop (p.at + length (map data_symbol bs)) old)
   line ys e =
       ap (λ (l : List ℕ). take p.at old ++ l)
-      (ap (λ (l : List ℕ). ys ++ l) nothing-after ∙ append-nil ys ∙ e ∙ sym done.1
-      ∙ ap (λ (l : List ℕ). charactersOf (map dataSymbol bs) p.disparity ++ l)
-      (ap (drop (length bs)) part-is ∙ drop-drop (length bs) p.at old
-      ∙ ap (λ (n : ℕ). drop (p.at + n) old) (sym (length-map dataSymbol bs))))
+      (ap (λ (l : List ℕ). ys ++ l) nothing_after ∙ append-nil ys ∙ e ∙ sym done.1
+      ∙ ap (λ (l : List ℕ). characters_of (map data_symbol bs) p.disparity ++ l)
+      (ap (drop (length bs)) part_is ∙ drop-drop (length bs) p.at old
+      ∙ ap (λ (n : ℕ). drop (p.at + n) old) (sym (length_map data_symbol bs))))
 
   -- where the run was written it closes as its symbols do
-  pub run-closing : (e : ℤ) → runWritten e ≡ runWriting bs p.disparity (length part) → e ≡ closingOf (map dataSymbol bs) p.disparity
-  run-closing e h =
+  pub run_closing_is : (e : ℤ) → run_written e ≡ run_writing bs p.disparity (length part) → e ≡ closing_of (map data_symbol bs) p.disparity
+  run_closing_is e h =
       some-injective _ _ (ap (λ (w : RunWriting). w.disparity) (h ∙ sym done.0))
 
-  pub run-wrote : (ys : List ℕ) (q : Place) → ys ≡ runStored bs p.disparity part → q.at ≡ p.at + length bs
-      → q.disparity ≡ closingOf (map dataSymbol bs) p.disparity
-      → Wrote p (map dataSymbol bs) old (take p.at old ++ (ys ++ drop (length old - p.at) past)) q
-  run-wrote ys q e a z =
+  pub run_wrote : (ys : List ℕ) (q : Place) → ys ≡ run_stored bs p.disparity part → q.at ≡ p.at + length bs
+      → q.disparity ≡ closing_of (map data_symbol bs) p.disparity
+      → Wrote p (map data_symbol bs) old (take p.at old ++ (ys ++ drop (length old - p.at) past)) q
+  run_wrote ys q e a z =
       record {
         line = line ys e;
-        next = ap₂ (λ (n : ℕ) (y : ℤ). record { at = n; disparity = y }) (a ∙ ap (λ (n : ℕ). p.at + n) (sym (length-map dataSymbol bs))) z;
+        next = ap₂ (λ (n : ℕ) (y : ℤ). record { at = n; disparity = y }) (a ∙ ap (λ (n : ℕ). p.at + n) (sym (length_map data_symbol bs))) z;
       }
 
   -- and it was not refused
-  pub run-not-refused : (n : ℕ) → notRunWritten n ≡ runWriting bs p.disparity (length part) → ⊥
-  run-not-refused n h = some-is-not-none (sym (ap (λ (w : RunWriting). w.disparity) (h ∙ sym done.0)))
+  pub run_not_refused : (n : ℕ) → not_run_written n ≡ run_writing bs p.disparity (length part) → ⊥
+  run_not_refused n h = some_is_not_none (sym (ap (λ (w : RunWriting). w.disparity) (h ∙ sym done.0)))

@@ -12,19 +12,19 @@ use lib.IntN.{ℤ}
 use lib.ListN.{length, set, take, drop, length-append, take-append-drop}
 use lib.Seq.{set_split, take_at, drop_at, drop-drop, length-take-le}
 use Rattle.symbol.specs.declared.Symbol.{Symbol}
-use Rattle.laws.proofs.Cases.{some-is-not-none}
-use Rattle.character_rules.specs.Disparity.{isDisparity}
+use Rattle.laws.proofs.Cases.{some_is_not_none}
+use Rattle.character_rules.specs.Disparity.{is_disparity}
 use Rattle.character_rules.specs.Blocks.{character, closing}
-use Rattle.character_rules.specs.Answers.{Writing, written, notWritten}
-use Rattle.character_rules.specs.Writing.{writing, charactersOf, closingOf}
+use Rattle.character_rules.specs.Answers.{Writing, written, not_written}
+use Rattle.character_rules.specs.Writing.{writing, characters_of, closing_of}
 use Rattle.character_rules.specs.Demand.{can_write}
 use Rattle.character_rules.proofs.Trip.{writes}
-use Rattle.character_rules.proofs.WriteLaws.{closing-is, length-characters, characters-append, closes-append}
+use Rattle.character_rules.proofs.WriteLaws.{closing_is, length_characters, characters_append, closes_append}
 use Rattle.packet_writer.specs.declared.Place.{Place}
 use Rattle.packet_writer.specs.Writing.{Wrote}
 
 pub wrote_none : (p : Place) (old : List ℕ) → Wrote p [] old old p
-unfolding charactersOf closingOf
+unfolding characters_of closing_of
 wrote_none p old =
     record {
       line = sym (rw (add-zero) (take-append-drop p.at old));
@@ -32,9 +32,9 @@ wrote_none p old =
     }
 
 -- two parts of lists, one after the other
-paste-paste : (a i j : ℕ) (l m old mid : List ℕ) → a + i ≤ length old → length l ≡ i → mid ≡ take a old ++ (l ++ drop (a + i) old)
+paste_paste : (a i j : ℕ) (l m old mid : List ℕ) → a + i ≤ length old → length l ≡ i → mid ≡ take a old ++ (l ++ drop (a + i) old)
     → take (a + i) mid ++ (m ++ drop (a + i + j) mid) ≡ take a old ++ ((l ++ m) ++ drop (a + (i + j)) old)
-paste-paste a i j l m old mid h el e =
+paste_paste a i j l m old mid h el e =
     let n : length (take a old ++ l) ≡ a + i = length-append (take a old) l ∙ ap₂ ◌+◌ (length-take-le a old (omega arith)) el in
     let e' : mid ≡ (take a old ++ l) ++ drop (a + i) old = e ∙ sym (append_assoc (take a old) l (drop (a + i) old)) in
     let t : take (a + i) mid ≡ take a old ++ l = ap (take (a + i)) e' ∙ take_at (take a old ++ l) (drop (a + i) old) (a + i) n in
@@ -46,30 +46,30 @@ paste-paste a i j l m old mid h el e =
     ∙ ap (λ (x : List ℕ). take a old ++ x) (sym (append_assoc l m (drop (a + (i + j)) old)))
 
 then : (p : Place) {s : Place} (xs ys : List Symbol) {old mid new : List ℕ} → p.at + length xs ≤ length old
-    → mid ≡ take p.at old ++ (charactersOf xs p.disparity ++ drop (p.at + length xs) old)
-    → Wrote (record { at = p.at + length xs; disparity = closingOf xs p.disparity }) ys mid new s → Wrote p (xs ++ ys) old new s
+    → mid ≡ take p.at old ++ (characters_of xs p.disparity ++ drop (p.at + length xs) old)
+    → Wrote (record { at = p.at + length xs; disparity = closing_of xs p.disparity }) ys mid new s → Wrote p (xs ++ ys) old new s
 then p {s} xs ys {old} {mid} {new} h e v =
     let d = p.disparity in
     record {
-      line = v.line ∙ paste-paste p.at (length xs) (length ys) (charactersOf xs d) (charactersOf ys (closingOf xs d)) old mid h (length-characters xs d) e
-          ∙ ap₂ (λ (x : List ℕ) (k : ℕ). take p.at old ++ (x ++ drop (p.at + k) old)) (sym (characters-append xs ys d)) (sym (length-append xs ys));
+      line = v.line ∙ paste_paste p.at (length xs) (length ys) (characters_of xs d) (characters_of ys (closing_of xs d)) old mid h (length_characters xs d) e
+          ∙ ap₂ (λ (x : List ℕ) (k : ℕ). take p.at old ++ (x ++ drop (p.at + k) old)) (sym (characters_append xs ys d)) (sym (length-append xs ys));
       next = v.next ∙ ap₂ (λ (n : ℕ) (z : ℤ). record { at = n; disparity = z })
-          (add_assoc p.at (length xs) (length ys) ∙ ap (λ (k : ℕ). p.at + k) (sym (length-append xs ys))) (sym (closes-append xs ys d));
+          (add_assoc p.at (length xs) (length ys) ∙ ap (λ (k : ℕ). p.at + k) (sym (length-append xs ys))) (sym (closes_append xs ys d));
     }
 
-pub wrote-more : {p q s : Place} {xs ys : List Symbol} {old mid new : List ℕ}
+pub wrote_more : {p q s : Place} {xs ys : List Symbol} {old mid new : List ℕ}
     → Wrote p xs old mid q → Wrote q ys mid new s → p.at + length xs ≤ length old → Wrote p (xs ++ ys) old new s
-wrote-more {p} {q} {s} {xs} {ys} {old} {mid} {new} w v h =
+wrote_more {p} {q} {s} {xs} {ys} {old} {mid} {new} w v h =
     then p xs ys h w.line (subst (λ (x : Place). Wrote x ys mid new s) w.next v)
 
 -- where the writing closes is a disparity again
-pub wrote-disparity : {p q : Place} {xs : List Symbol} {old new : List ℕ} → Wrote p xs old new q → T (isDisparity p.disparity) → T (isDisparity q.disparity)
-wrote-disparity {p} {q} {xs} w t = subst (λ (x : Place). T (isDisparity x.disparity)) (sym w.next) (closing-is xs p.disparity t)
+pub wrote_disparity : {p q : Place} {xs : List Symbol} {old new : List ℕ} → Wrote p xs old new q → T (is_disparity p.disparity) → T (is_disparity q.disparity)
+wrote_disparity {p} {q} {xs} w t = subst (λ (x : Place). T (is_disparity x.disparity)) (sym w.next) (closing_is xs p.disparity t)
 
 -- one character stored
 pub wrote_one : (p : Place) (x : Symbol) (old new : List ℕ) (q : Place) → p.at < length old
     → new ≡ set old p.at (character x p.disparity) → q.at ≡ p.at + 1 → q.disparity ≡ closing x p.disparity → Wrote p (x ∷ []) old new q
-unfolding charactersOf closingOf
+unfolding characters_of closing_of
 wrote_one p x old new q h e a z =
     record {
       line = e ∙ set_split old p.at (character x p.disparity) h
@@ -79,12 +79,12 @@ wrote_one p x old new q h e a z =
 
 -- ---- what the character writer answers where it can write
 
-module _ (x : Symbol) (d : ℤ) (can : T (can_write x)) (t : T (isDisparity d)) where
-  pub wrote-character : (c : ℕ) (e : ℤ) → written c e ≡ writing x d → c ≡ character x d
-  wrote-character c e q = some-injective _ _ (ap (λ (w : Writing). w.character) (q ∙ writes x d can t))
+module _ (x : Symbol) (d : ℤ) (can : T (can_write x)) (t : T (is_disparity d)) where
+  pub wrote_character : (c : ℕ) (e : ℤ) → written c e ≡ writing x d → c ≡ character x d
+  wrote_character c e q = some-injective _ _ (ap (λ (w : Writing). w.character) (q ∙ writes x d can t))
 
-  pub wrote-closing : (c : ℕ) (e : ℤ) → written c e ≡ writing x d → e ≡ closing x d
-  wrote-closing c e q = some-injective _ _ (ap (λ (w : Writing). w.disparity) (q ∙ writes x d can t))
+  pub wrote_closing : (c : ℕ) (e : ℤ) → written c e ≡ writing x d → e ≡ closing x d
+  wrote_closing c e q = some-injective _ _ (ap (λ (w : Writing). w.disparity) (q ∙ writes x d can t))
 
-  pub not-refused : (n : ℕ) → notWritten n ≡ writing x d → ⊥
-  not-refused n q = some-is-not-none (sym (ap (λ (w : Writing). w.character) (q ∙ writes x d can t)))
+  pub not_refused : (n : ℕ) → not_written n ≡ writing x d → ⊥
+  not_refused n q = some_is_not_none (sym (ap (λ (w : Writing). w.character) (q ∙ writes x d can t)))

@@ -7,46 +7,46 @@ use Prim.Native.Nat.{ℕ, ◌+◌, ◌*◌}
 use native.Mathlib.Nat.{zero-add}
 use lib.IntN.{ℤ}
 use lib.ListN.{length, drop}
-use Rattle.refusal.specs.Order.{refusalOf}
-use Rattle.refusal.proofs.Laws.{done, refused, hands-back}
-use Rattle.character_rules.specs.Writing.{charactersOf, closingOf}
+use Rattle.refusal.specs.Order.{refusal_of}
+use Rattle.refusal.proofs.Laws.{done, refused, hands_back}
+use Rattle.character_rules.specs.Writing.{characters_of, closing_of}
 use Rattle.packet_rules.specs.Line.{SPP}
-use Rattle.packet_rules.specs.Packets.{Packet, inPriority, packetSymbols, symbolsOf, packetChecks}
-use Rattle.packet_rules.specs.Packets.{wrote, notWrote, packetWriting, packetOutput}
+use Rattle.packet_rules.specs.Packets.{Packet, in_priority, packet_symbols, symbols_of, packet_checks}
+use Rattle.packet_rules.specs.Packets.{wrote, not_wrote, packet_writing, packet_output}
 use Rattle.packet_writer.specs.declared.Place.{Place}
 use Rattle.packet_writer.specs.Writing.{Wrote}
 
 module _ (s : ℕ) (p : Packet) (d : ℤ) (old : List ℕ) where
   -- the output as it stood
-  pub refused-with : (n : ℕ) → refusalOf (packetChecks s p d (length old)) ≡ n → (n ≡ 0 → ⊥) → (notWrote n ≡ packetWriting s p d old) × (old ≡ packetOutput s p d old)
-  unfolding packetWriting packetOutput
-  refused-with n e h =
-      let cs = packetChecks s p d (length old) in
-      let ch = charactersOf (symbolsOf p) d ++ drop (length (symbolsOf p)) old in
-      let w = wrote (length (symbolsOf p)) (closingOf (symbolsOf p) d) in
-      let k : (refusalOf cs ≡ 0 → ⊥) = λ z. h (sym e ∙ z) in
-      (sym (refused cs notWrote w k ∙ ap notWrote e), sym (hands-back cs old ch k))
+  pub refused_with : (n : ℕ) → refusal_of (packet_checks s p d (length old)) ≡ n → (n ≡ 0 → ⊥) → (not_wrote n ≡ packet_writing s p d old) × (old ≡ packet_output s p d old)
+  unfolding packet_writing packet_output
+  refused_with n e h =
+      let cs = packet_checks s p d (length old) in
+      let ch = characters_of (symbols_of p) d ++ drop (length (symbols_of p)) old in
+      let w = wrote (length (symbols_of p)) (closing_of (symbols_of p) d) in
+      let k : (refusal_of cs ≡ 0 → ⊥) = λ z. h (sym e ∙ z) in
+      (sym (refused cs not_wrote w k ∙ ap not_wrote e), sym (hands_back cs old ch k))
 
   -- all of the packet, and nothing past it
-  pub written_all : {new : List ℕ} {q : Place} → refusalOf (packetChecks s p d (length old)) ≡ 0
-      → Wrote (record { at = 0; disparity = d }) (symbolsOf p) old new q
-      → (wrote q.at q.disparity ≡ packetWriting s p d old) × (new ≡ packetOutput s p d old)
-  unfolding packetWriting packetOutput
+  pub written_all : {new : List ℕ} {q : Place} → refusal_of (packet_checks s p d (length old)) ≡ 0
+      → Wrote (record { at = 0; disparity = d }) (symbols_of p) old new q
+      → (wrote q.at q.disparity ≡ packet_writing s p d old) × (new ≡ packet_output s p d old)
+  unfolding packet_writing packet_output
   written_all {new} {q} e w =
-      let cs = packetChecks s p d (length old) in
-      let n = length (symbolsOf p) in
-      let ch = charactersOf (symbolsOf p) d ++ drop n old in (
-        ap (λ (x : Place). wrote x.at x.disparity) w.next ∙ ap (λ (m : ℕ). wrote m (closingOf (symbolsOf p) d)) (zero-add n)
-            ∙ sym (done cs notWrote (wrote n (closingOf (symbolsOf p) d)) e),
-        w.line ∙ ap (λ (m : ℕ). charactersOf (symbolsOf p) d ++ drop m old) (zero-add n) ∙ sym (done cs (λ m. old) ch e),
+      let cs = packet_checks s p d (length old) in
+      let n = length (symbols_of p) in
+      let ch = characters_of (symbols_of p) d ++ drop n old in (
+        ap (λ (x : Place). wrote x.at x.disparity) w.next ∙ ap (λ (m : ℕ). wrote m (closing_of (symbols_of p) d)) (zero-add n)
+            ∙ sym (done cs not_wrote (wrote n (closing_of (symbols_of p) d)) e),
+        w.line ∙ ap (λ (m : ℕ). characters_of (symbols_of p) d ++ drop m old) (zero-add n) ∙ sym (done cs (λ m. old) ch e),
       )
 
 -- a priority packet by its opening byte
-pub priority-all : (s c g : ℕ) (bytes : List ℕ) (bad : Bool) (d : ℤ) (old : List ℕ) {new : List ℕ} {q : Place} (o : ℕ) → o ≡ 16 * g + c
-    → refusalOf (packetChecks s (inPriority c g bytes bad) d (length old)) ≡ 0
-    → Wrote (record { at = 0; disparity = d }) (packetSymbols SPP o bytes bad) old new q
-    → (wrote q.at q.disparity ≡ packetWriting s (inPriority c g bytes bad) d old) × (new ≡ packetOutput s (inPriority c g bytes bad) d old)
-unfolding symbolsOf
-priority-all s c g bytes bad d old {new} {q} o e f w =
-    written_all s (inPriority c g bytes bad) d old f
-    (subst (λ (x : ℕ). Wrote (record { at = 0; disparity = d }) (packetSymbols SPP x bytes bad) old new q) e w)
+pub priority_all : (s c g : ℕ) (bytes : List ℕ) (bad : Bool) (d : ℤ) (old : List ℕ) {new : List ℕ} {q : Place} (o : ℕ) → o ≡ 16 * g + c
+    → refusal_of (packet_checks s (in_priority c g bytes bad) d (length old)) ≡ 0
+    → Wrote (record { at = 0; disparity = d }) (packet_symbols SPP o bytes bad) old new q
+    → (wrote q.at q.disparity ≡ packet_writing s (in_priority c g bytes bad) d old) × (new ≡ packet_output s (in_priority c g bytes bad) d old)
+unfolding symbols_of
+priority_all s c g bytes bad d old {new} {q} o e f w =
+    written_all s (in_priority c g bytes bad) d old f
+    (subst (λ (x : ℕ). Wrote (record { at = 0; disparity = d }) (packet_symbols SPP x bytes bad) old new q) e w)

@@ -1,11 +1,11 @@
 // The packet writer: one whole data packet, priority packet or retry LMP a call, as ten-bit characters into lent memory.
 ghost use Rattle.std.specs.Prelude.{◌≡◌, [], ◌∷◌, map, ◌+◌, ◌≤◌, ◌<◌, T, length};
 ghost use Rattle.laws.specs.Lists.{all_of};
-ghost use Rattle.symbol.specs.Symbols.{dataSymbol};
-ghost use Rattle.character_rules.specs.Disparity.{isDisparity};
+ghost use Rattle.symbol.specs.Symbols.{data_symbol};
+ghost use Rattle.character_rules.specs.Disparity.{is_disparity};
 ghost use Rattle.character_rules.specs.Demand.{can_write};
-ghost use Rattle.packet_rules.specs.Packets.{inData, inPriority, retry, retryByte, packetSymbols, writtenSays, packetWriting, packetOutput};
-ghost use Rattle.packet_writer.specs.Writing.{symbol_of, endNumber, lmpSymbols, Wrote};
+ghost use Rattle.packet_rules.specs.Packets.{in_data, in_priority, retry, retry_byte, packet_symbols, written_says, packet_writing, packet_output};
+ghost use Rattle.packet_writer.specs.Writing.{symbol_of, end_number, lmp_symbols, Wrote};
 
 use character_rules::{Encoded, RunWritten};
 use packet_rules::Written;
@@ -30,7 +30,7 @@ fn symbol_of(number: u16) -> Symbol
 
 // One character is written.
 fn put(out: &mut [u16], p: Place, s: Symbol) -> Place
-    requires { (p.at < length out.old) × T (can_write s) × T (isDisparity p.disparity) }
+    requires { (p.at < length out.old) × T (can_write s) × T (is_disparity p.disparity) }
     ensures { Wrote p (s ∷ []) out.old out.new result }
 {
     let at = p.at;
@@ -51,7 +51,7 @@ fn put(out: &mut [u16], p: Place, s: Symbol) -> Place
 }
 
 fn put_symbols(out: &mut [u16], p: Place, numbers: &[u16]) -> Place
-    requires { (p.at + length numbers.now ≤ length out.old) × T (all_of can_write (map symbol_of numbers.now)) × T (isDisparity p.disparity) }
+    requires { (p.at + length numbers.now ≤ length out.old) × T (all_of can_write (map symbol_of numbers.now)) × T (is_disparity p.disparity) }
     ensures { Wrote p (map symbol_of numbers.now) out.old out.new result }
 {
     let mut q = p;
@@ -66,8 +66,8 @@ fn put_symbols(out: &mut [u16], p: Place, numbers: &[u16]) -> Place
 
 // The user bytes are written as one run.
 fn put_bytes(out: &mut [u16], p: Place, bytes: &[u8]) -> Place
-    requires { (p.at + length bytes.now ≤ length out.old) × T (isDisparity p.disparity) }
-    ensures { Wrote p (map dataSymbol bytes.now) out.old out.new result }
+    requires { (p.at + length bytes.now ≤ length out.old) × T (is_disparity p.disparity) }
+    ensures { Wrote p (map data_symbol bytes.now) out.old out.new result }
 {
     let at = p.at;
     let n = bytes.len();
@@ -82,15 +82,15 @@ fn put_bytes(out: &mut [u16], p: Place, bytes: &[u8]) -> Place
 }
 
 fn end_number(bad: bool) -> u16
-    ensures { result ≡ endNumber bad }
+    ensures { result ≡ end_number bad }
 {
     if bad { 0x1FE } else { 0x1FD }
 }
 
 // A whole packet: its start symbol by number, the opening byte, the bytes, the end symbol, the opening byte again, and the CRC.
 fn put_packet(out: &mut [u16], p: Place, start: u16, opening: u8, bytes: &[u8], bad: bool) -> Place
-    requires { (p.at + (length bytes.now + 6) ≤ length out.old) × T (can_write (symbol_of start)) × T (isDisparity p.disparity) }
-    ensures { Wrote p (packetSymbols (symbol_of start) opening bytes.now bad) out.old out.new result }
+    requires { (p.at + (length bytes.now + 6) ≤ length out.old) × T (can_write (symbol_of start)) × T (is_disparity p.disparity) }
+    ensures { Wrote p (packet_symbols (symbol_of start) opening bytes.now bad) out.old out.new result }
 {
     let o = opening as u16;
     let register = crc::run(crc::start(), bytes);
@@ -107,8 +107,8 @@ fn put_packet(out: &mut [u16], p: Place, start: u16, opening: u8, bytes: &[u8], 
 }
 
 fn put_lmp(out: &mut [u16], p: Place, t: u8, n: u8) -> Place
-    requires { (p.at + 4 ≤ length out.old) × T (isDisparity p.disparity) }
-    ensures { Wrote p (lmpSymbols t n) out.old out.new result }
+    requires { (p.at + 4 ≤ length out.old) × T (is_disparity p.disparity) }
+    ensures { Wrote p (lmp_symbols t n) out.old out.new result }
 {
     let x = t as u16;
     let y = n as u16;
@@ -118,8 +118,8 @@ fn put_lmp(out: &mut [u16], p: Place, t: u8, n: u8) -> Place
 
 // One whole data packet. S plays no part in it.
 pub fn write_data(channel: u32, bytes: &[u8], bad: bool, disparity: i32, out: &mut [u16]) -> Written
-    ensures { (writtenSays result ≡ packetWriting 0 (inData channel bytes.now bad) disparity out.old)
-        × (out.new ≡ packetOutput 0 (inData channel bytes.now bad) disparity out.old) }
+    ensures { (written_says result ≡ packet_writing 0 (in_data channel bytes.now bad) disparity out.old)
+        × (out.new ≡ packet_output 0 (in_data channel bytes.now bad) disparity out.old) }
 {
     let refused = packet_refusals::data_refusal(channel, bytes, disparity, out.len());
     if refused != 0 {
@@ -143,8 +143,8 @@ pub fn write_priority(
     disparity: i32,
     out: &mut [u16],
 ) -> Written
-    ensures { (writtenSays result ≡ packetWriting size (inPriority channel segment bytes.now bad) disparity out.old)
-        × (out.new ≡ packetOutput size (inPriority channel segment bytes.now bad) disparity out.old) }
+    ensures { (written_says result ≡ packet_writing size (in_priority channel segment bytes.now bad) disparity out.old)
+        × (out.new ≡ packet_output size (in_priority channel segment bytes.now bad) disparity out.old) }
 {
     let refused = packet_refusals::priority_refusal(
         size,
@@ -167,15 +167,15 @@ pub fn write_priority(
 }
 
 fn retry_byte(nack: bool) -> u8
-    ensures { result ≡ retryByte nack }
+    ensures { result ≡ retry_byte nack }
 {
     if nack { 0x21 } else { 0x20 }
 }
 
 // One retry LMP: ACK or NACK of a number.
 pub fn write_lmp(nack: bool, number: u32, disparity: i32, out: &mut [u16]) -> Written
-    ensures { (writtenSays result ≡ packetWriting 0 (retry nack number) disparity out.old)
-        × (out.new ≡ packetOutput 0 (retry nack number) disparity out.old) }
+    ensures { (written_says result ≡ packet_writing 0 (retry nack number) disparity out.old)
+        × (out.new ≡ packet_output 0 (retry nack number) disparity out.old) }
 {
     let refused = packet_refusals::lmp_refusal(number, disparity, out.len());
     if refused != 0 {

@@ -61,16 +61,16 @@ sig = record { lifetimes = 1; outlives = []; params = plain B ∷ []; result = p
 abbrev pub ended : Ended
 ended = record { signature = sig; kept = (yes, tt) }
 
-abbrev pub c-sig : Signature
-c-sig = record {
+abbrev pub c_sig : Signature
+c_sig = record {
   lifetimes = 1;
   outlives = [];
   params = SliceRefOf (0 ∷ []) tt (plain (λ κs. u8)) (λ κs. tt) ∷ plain (λ κs. usize) ∷ [];
   result = plain (λ κs. S.the_row);
 }
 
-abbrev pub c-ended : Ended
-c-ended = record { signature = c-sig; kept = (yes, (yes, tt)) }
+abbrev pub c_ended : Ended
+c_ended = record { signature = c_sig; kept = (yes, (yes, tt)) }
 
 -- its MIR, over F's key
 abbrev pub fn : Name → Fn
@@ -93,13 +93,13 @@ module _ (Of : List ℕ → ℕ → Said) where
   abbrev pub clauses : {M : Type 1} (𝓤 : Ura M) → Clauses 𝓤 ended
   clauses 𝓤 κs a = record { ghost = Unit {0}; requires = λ g. emp 𝓤; ensures = λ g r e. fact 𝓤 (saying r ≡ Of a.0.capture.now a.0.place) }
 
-  abbrev pub c-clauses : {M : Type 1} (𝓤 : Ura M) → Clauses 𝓤 c-ended
-  c-clauses 𝓤 κs a = record { ghost = Unit {0}; requires = λ g. emp 𝓤; ensures = λ g r e. fact 𝓤 (saying r ≡ Of a.0.now a.1.0) }
+  abbrev pub c_clauses : {M : Type 1} (𝓤 : Ura M) → Clauses 𝓤 c_ended
+  c_clauses 𝓤 κs a = record { ghost = Unit {0}; requires = λ g. emp 𝓤; ensures = λ g r e. fact 𝓤 (saying r ≡ Of a.0.now a.1.0) }
 
   module _ {M : Type 1} {𝓤 : Ura M} (𝓛 : Logic 𝓤) where
     -- the contract that the proof cites
     abbrev pub Callee : Contract 𝓤
-    Callee = triple_of 𝓛 c-sig (closing 𝓛 c-ended (c-clauses 𝓤))
+    Callee = triple_of 𝓛 c_sig (closing 𝓛 c_ended (c_clauses 𝓤))
 
   module _ (key : Name) where
     module _ {M : Type 1} {𝓤 : Ura M} (𝓛 : Logic 𝓤) (κ : Lft) (q : Share) (d : Pane) where
@@ -132,13 +132,13 @@ module _ (Of : List ℕ → ℕ → Said) where
       vd = (d.capture, (d.place, tt))
 
       -- what the callee is passed
-      abbrev passed : Vals c-sig (κ, tt)
+      abbrev passed : Vals c_sig (κ, tt)
       passed = (v ∷ [], (vint w64 d.place ∷ [], tt))
 
       abbrev to : (Callee 𝓛).Ghost
       to = (((κ, tt), (q, tt), tt, (d.capture, (d.place, tt)), passed), tt)
 
-      asked : ent 𝓤 (on_entry 𝓛 c-sig (κ, tt) (q, tt) (d.capture, (d.place, tt)) passed) ((Callee 𝓛).pre to)
+      asked : ent 𝓤 (on_entry 𝓛 c_sig (κ, tt) (q, tt) (d.capture, (d.place, tt)) passed) ((Callee 𝓛).pre to)
       asked = qed 𝓛 ((‵ (flft κ q) ⊛ ‵ ftrue) ∷ ‵ (owns (ShrSlice (named 0) κ u8 ∷ usize ∷ []) (d.capture, (d.place, tt)) passed) ∷ []) ∵ join ! $ frame ! $
           done !
 
@@ -156,8 +156,8 @@ module _ (Of : List ℕ → ℕ → Said) where
           move ! (2 ∷ 0 ∷ []) $ use2 𝓛 (raw ((Callee 𝓛).pre to)) asked $ frame ! $ done !)
 
       -- of the callee's `ensured`, the clause alone: it has no `&mut`, so what is said of last values is dropped
-      said : (r : Answer) → ent 𝓤 (ensured 𝓛 c-ended (c-clauses 𝓤) (κ, tt) (d.capture, (d.place, tt)) tt r) (fact 𝓤 (saying r ≡ found))
-      said r = ex_e 𝓤 _ (λ ws. snd∗ 𝓤 (sem 𝓛 (lasts c-ended (κ, tt) (d.capture, (d.place, tt)) ws)) (fact 𝓤 (saying r ≡ found)))
+      said : (r : Answer) → ent 𝓤 (ensured 𝓛 c_ended (c_clauses 𝓤) (κ, tt) (d.capture, (d.place, tt)) tt r) (fact 𝓤 (saying r ≡ found))
+      said r = ex_e 𝓤 _ (λ ws. snd∗ 𝓤 (sem 𝓛 (lasts c_ended (κ, tt) (d.capture, (d.place, tt)) ws)) (fact 𝓤 (saying r ≡ found)))
 
       exits : (r : Answer) (u : Val) → saying r ≡ found → ent 𝓤 (⋆ 𝓛 (‵ ((S.the_row).own_val r (u ∷ [])) ∷ (‵ (flft κ q) ⊛ ‵ ftrue) ∷ ‵ Own ∷ [])) (Post u)
       exits r u e =
@@ -179,7 +179,7 @@ module _ (Of : List ℕ → ℕ → Said) where
             calls_at ! fm (Callee 𝓛) known to (and_then ! (load ! (from ! (stop !)) (look ! 4 refl))
             (and_then ! (load ! (from ! (stop !)) (look ! 2 refl)) (no_more !))) (λ u.
             use1 𝓛 (later (some (λ (r : Answer). ((‵ (flft κ q) ⊛ ‵ ftrue) ⊛ ‵ ((S.the_row).own_val r (u ∷ []))) ⊛
-            raw (ensured 𝓛 c-ended (c-clauses 𝓤) (κ, tt) (d.capture, (d.place, tt)) tt r)))) (id⊢ 𝓤 _) $ await ! tt $ pick ! (λ r.
+            raw (ensured 𝓛 c_ended (c_clauses 𝓤) (κ, tt) (d.capture, (d.place, tt)) tt r)))) (id⊢ 𝓤 _) $ await ! tt $ pick ! (λ r.
             split ! $ move ! (1 ∷ []) $ use1 𝓛 (raw (fact 𝓤 (saying r ≡ found))) (said r) $ heard ! (saying r ≡ found) (λ e. split ! $ move ! (1 ∷ []) $
             -- [the result; the token; what the struct owns; _3; …; _2; …; _1; …; room for _0; …]
             peeks ! S.the_row (Is S.the_row) (shows 𝓛 S.the_row) r (u ∷ []) (λ is.

@@ -65,16 +65,16 @@ sig = record {
 abbrev pub ended : Ended
 ended = record { signature = sig; kept = (yes, tt) }
 
-abbrev pub c-sig : Signature
-c-sig = record {
+abbrev pub c_sig : Signature
+c_sig = record {
   lifetimes = 1;
   outlives = [];
   params = SliceRefOf (0 ∷ []) tt (plain (λ κs. u8)) (λ κs. tt) ∷ plain (λ κs. usize) ∷ [];
   result = plain (λ κs. S.the_row);
 }
 
-abbrev pub c-ended : Ended
-c-ended = record { signature = c-sig; kept = (yes, (yes, tt)) }
+abbrev pub c_ended : Ended
+c_ended = record { signature = c_sig; kept = (yes, (yes, tt)) }
 
 -- its MIR, over F's key; X is how the MIR names the struct behind the reference
 abbrev pub fn : Ty → Name → Fn
@@ -115,13 +115,13 @@ module _ (Of : List ℕ → ℕ → Move) where
         (e.0.now.place ≡ (Of a.0.now.capture.now a.0.now.place).place));
   }
 
-  abbrev pub c-clauses : {M : Type 1} (𝓤 : Ura M) → Clauses 𝓤 c-ended
-  c-clauses 𝓤 κs a = record { ghost = Unit {0}; requires = λ g. emp 𝓤; ensures = λ g r e. fact 𝓤 (r ≡ Of a.0.now a.1.0) }
+  abbrev pub c_clauses : {M : Type 1} (𝓤 : Ura M) → Clauses 𝓤 c_ended
+  c_clauses 𝓤 κs a = record { ghost = Unit {0}; requires = λ g. emp 𝓤; ensures = λ g r e. fact 𝓤 (r ≡ Of a.0.now a.1.0) }
 
   module _ {M : Type 1} {𝓤 : Ura M} (𝓛 : Logic 𝓤) where
     -- the contract that the proof cites
     abbrev pub Callee : Contract 𝓤
-    Callee = triple_of 𝓛 c-sig (closing 𝓛 c-ended (c-clauses 𝓤))
+    Callee = triple_of 𝓛 c_sig (closing 𝓛 c_ended (c_clauses 𝓤))
 
   module _ (X : Ty) (key : Name) where
     module _ {M : Type 1} {𝓤 : Ura M} (𝓛 : Logic 𝓤) (κ κ' : Lft) (q q' : Share)
@@ -159,13 +159,13 @@ module _ (Of : List ℕ → ℕ → Move) where
       Own = (B κ').own_val h (mach ∷ [])
 
       -- what the callee is passed, and what it asks
-      abbrev passed : Vals c-sig (κ', tt)
+      abbrev passed : Vals c_sig (κ', tt)
       passed = (slice_val h.capture.ref_ptr (length h.capture.now) ∷ [], (vint w64 h.place ∷ [], tt))
 
       abbrev to : (Callee 𝓛).Ghost
       to = (((κ', tt), (q', tt), tt, (h.capture, (h.place, tt)), passed), tt)
 
-      asked : ent 𝓤 (on_entry 𝓛 c-sig (κ', tt) (q', tt) (h.capture, (h.place, tt)) passed) ((Callee 𝓛).pre to)
+      asked : ent 𝓤 (on_entry 𝓛 c_sig (κ', tt) (q', tt) (h.capture, (h.place, tt)) passed) ((Callee 𝓛).pre to)
       asked = qed 𝓛 ((‵ (flft κ' q') ⊛ ‵ ftrue) ∷ ‵ (owns (ShrSlice (named 0) κ' u8 ∷ usize ∷ []) (h.capture, (h.place, tt)) passed) ∷ []) ∵ join ! $
           frame ! $ done !
 
@@ -180,8 +180,8 @@ module _ (Of : List ℕ → ℕ → Move) where
           fjoin ! $
           move ! (2 ∷ 0 ∷ []) $ use2 𝓛 (raw ((Callee 𝓛).pre to)) asked $ frame ! $ done !)
 
-      said : (r : Move) → ent 𝓤 (ensured 𝓛 c-ended (c-clauses 𝓤) (κ', tt) (h.capture, (h.place, tt)) tt r) (fact 𝓤 (r ≡ found))
-      said r = ex_e 𝓤 _ (λ ws. snd∗ 𝓤 (sem 𝓛 (lasts c-ended (κ', tt) (h.capture, (h.place, tt)) ws)) (fact 𝓤 (r ≡ found)))
+      said : (r : Move) → ent 𝓤 (ensured 𝓛 c_ended (c_clauses 𝓤) (κ', tt) (h.capture, (h.place, tt)) tt r) (fact 𝓤 (r ≡ found))
+      said r = ex_e 𝓤 _ (λ ws. snd∗ 𝓤 (sem 𝓛 (lasts c_ended (κ', tt) (h.capture, (h.place, tt)) ws)) (fact 𝓤 (r ≡ found)))
 
       -- what capture owns is kept, and place's facts are made anew
       again : (m : ℕ) → m < 2 ^ 64 → ent 𝓤 (sem 𝓛 Own) (sem 𝓛 ((B κ').own_val (h' m) (T'.lowered (h' m) ∷ [])))
@@ -226,7 +226,7 @@ module _ (Of : List ℕ → ℕ → Move) where
             calls_at ! fm (Callee 𝓛) known to (and_then ! (load ! (from ! (stop !)) (look ! 9 refl))
             (and_then ! (load ! (from ! (stop !)) (look ! 7 refl)) (no_more !))) (λ u.
             use1 𝓛 (later (some (λ (r : Move). ((‵ (flft κ' q') ⊛ ‵ ftrue) ⊛ ‵ ((S.the_row).own_val r (u ∷ []))) ⊛
-            raw (ensured 𝓛 c-ended (c-clauses 𝓤) (κ', tt) (h.capture, (h.place, tt)) tt r)))) (id⊢ 𝓤 _) $ await ! tt $ pick ! (λ r.
+            raw (ensured 𝓛 c_ended (c_clauses 𝓤) (κ', tt) (h.capture, (h.place, tt)) tt r)))) (id⊢ 𝓤 _) $ await ! tt $ pick ! (λ r.
             split ! $ move ! (1 ∷ []) $ use1 𝓛 (raw (fact 𝓤 (r ≡ found))) (said r) $ heard ! (r ≡ found) (λ e. split ! $ move ! (1 ∷ []) $
             -- [the move; 'a's token; what a Pane owns; the struct's cell; the open borrow; obs; auth; true; _4; …; _3; …; _2; …; _1; …; room for _0; …]
             peeks ! S.the_row (Is S.the_row) (shows 𝓛 S.the_row) r (u ∷ [])
@@ -259,8 +259,8 @@ module _ (Of : List ℕ → ℕ → Move) where
           (λ κs qs bounds a _ are. via 𝓤 _ (fst∗ 𝓤 _ (emp 𝓤))
           (walk 𝓛 κs.0 κs.1.0 qs.0 qs.1.0 bounds a.0.ref_ptr.0 a.0.ref_ptr.1 a.0.ghost_name a.0.now C Λ fm known))
 
-    pub moves-meets : {M : Type 1} {𝓤 : Ura M} (𝓛 : Logic 𝓤) → (𝓣 : Tables 𝓤 𝓛.H) → Triple 𝓤 (𝓣.C key) (Callee 𝓛)
+    pub moves_meets : {M : Type 1} {𝓤 : Ura M} (𝓛 : Logic 𝓤) → (𝓣 : Tables 𝓤 𝓛.H) → Triple 𝓤 (𝓣.C key) (Callee 𝓛)
         → Meets 𝓛 sig (WpFn 𝓤 𝓛.H 𝓣.C 𝓣.Λ (fn X key)) (closing 𝓛 ended (clauses 𝓤))
-    moves-meets {𝓤 = 𝓤} 𝓛 𝓣 known = walk_Meets 𝓛 ended stayed (Goes-ref 𝓛 2 0 tt behind, tt) (clauses 𝓤) (WpFn 𝓤 𝓛.H 𝓣.C 𝓣.Λ (fn X key))
+    moves_meets {𝓤 = 𝓤} 𝓛 𝓣 known = walk_Meets 𝓛 ended stayed (Goes-ref 𝓛 2 0 tt behind, tt) (clauses 𝓤) (WpFn 𝓤 𝓛.H 𝓣.C 𝓣.Λ (fn X key))
         (WpFn-mono 𝓤 𝓛.H 𝓛.laws 𝓣 (fn X key))
         (moves-walks 𝓛 𝓣.C 𝓣.Λ (fm_of 𝓤 𝓛.H 𝓛.laws 𝓣) known)

@@ -1,7 +1,7 @@
 // The service pane: a capture and a place in it. Each function over it takes it apart and leaves the work to one on the slice and the place.
 ghost use Rattle.std.specs.Prelude.{◌≡◌};
-ghost use Rattle.capture_rules.specs.Calls.{says, characterSays};
-ghost use Rattle.capture_rules.specs.Panes.{placeSays, forwardFrom, backFrom};
+ghost use Rattle.capture_rules.specs.Calls.{says, character_says};
+ghost use Rattle.capture_rules.specs.Panes.{place_says, forward_from, back_from};
 
 use capture::character_at;
 use capture_rules::{Answer, Move};
@@ -22,23 +22,23 @@ pub fn open<'a>(capture: &'a [u8]) -> Pane<'a>
 
 // Where the pane stands.
 pub fn place<'a>(pane: Pane<'a>) -> Answer
-    ensures { says result ≡ placeSays pane.entry.capture.now pane.entry.place }
+    ensures { says result ≡ place_says pane.entry.capture.now pane.entry.place }
 {
     place_in(pane.capture, pane.place)
 }
 
 // The character that stands there.
 pub fn here<'a>(pane: Pane<'a>) -> Answer
-    ensures { says result ≡ characterSays pane.entry.capture.now pane.entry.place }
+    ensures { says result ≡ character_says pane.entry.capture.now pane.entry.place }
 {
     character_at(pane.capture, pane.place)
 }
 
 // Moves the pane forward, and says what came of it.
 pub fn forward<'s, 'a>(pane: &'s mut Pane<'a>) -> Move
-    ensures { (result ≡ forwardFrom pane.old.capture.now pane.old.place)
+    ensures { (result ≡ forward_from pane.old.capture.now pane.old.place)
         × (pane.new.capture ≡ pane.old.capture)
-        × (pane.new.place ≡ (forwardFrom pane.old.capture.now pane.old.place).place) }
+        × (pane.new.place ≡ (forward_from pane.old.capture.now pane.old.place).place) }
 {
     let m = forward_from(pane.capture, pane.place);
     pane.place = m.place;
@@ -47,9 +47,9 @@ pub fn forward<'s, 'a>(pane: &'s mut Pane<'a>) -> Move
 
 // Moves the pane back, and says what came of it.
 pub fn back<'s, 'a>(pane: &'s mut Pane<'a>) -> Move
-    ensures { (result ≡ backFrom pane.old.capture.now pane.old.place)
+    ensures { (result ≡ back_from pane.old.capture.now pane.old.place)
         × (pane.new.capture ≡ pane.old.capture)
-        × (pane.new.place ≡ (backFrom pane.old.capture.now pane.old.place).place) }
+        × (pane.new.place ≡ (back_from pane.old.capture.now pane.old.place).place) }
 {
     let m = back_from(pane.capture, pane.place);
     pane.place = m.place;
@@ -58,7 +58,7 @@ pub fn back<'s, 'a>(pane: &'s mut Pane<'a>) -> Move
 
 // The character that a fresh pane shows. Whoever calls this one, on a plain slice, needs no walk.
 pub fn first(capture: &[u8]) -> Answer
-    ensures { says result ≡ characterSays capture.now 0 }
+    ensures { says result ≡ character_says capture.now 0 }
 {
     here(open(capture))
 }

@@ -1,14 +1,14 @@
 // A place in a capture, and the moves from it to the next and to the one before.
 ghost use Rattle.std.specs.Prelude.{◌≡◌};
 ghost use Rattle.capture_rules.specs.Calls.{says};
-ghost use Rattle.capture_rules.specs.Panes.{placeSays, stayed, forwardFrom, backFrom};
+ghost use Rattle.capture_rules.specs.Panes.{place_says, stayed, forward_from, back_from};
 
 use capture::is_legal;
 use capture_rules::{Answer, Move};
 
 // A place in a capture, where it is one.
 pub fn place_in(capture: &[u8], place: usize) -> Answer
-    ensures { says result ≡ placeSays capture.now place }
+    ensures { says result ≡ place_says capture.now place }
 {
     if !is_legal(capture) {
         return Answer::Refused(refusal::BAD_CAPTURE);
@@ -32,7 +32,7 @@ fn stay(place: usize, refusal: u8) -> Move
 
 // One character forward from a place.
 pub fn forward_from(capture: &[u8], place: usize) -> Move
-    ensures { result ≡ forwardFrom capture.now place }
+    ensures { result ≡ forward_from capture.now place }
 {
     if !is_legal(capture) {
         return stay(place, refusal::BAD_CAPTURE);
@@ -53,7 +53,7 @@ pub fn forward_from(capture: &[u8], place: usize) -> Move
 
 // One character back from a place.
 pub fn back_from(capture: &[u8], place: usize) -> Move
-    ensures { result ≡ backFrom capture.now place }
+    ensures { result ≡ back_from capture.now place }
 {
     if !is_legal(capture) {
         return stay(place, refusal::BAD_CAPTURE);

@@ -24,12 +24,12 @@ first_of [] cs = 0
 first_of (n ∷ ns) cs = cond (given n cs) n (first_of ns cs)
 
 -- the number that a call with these checks is refused with; 0: it is not refused
-abbrev pub refusalOf : List Check → ℕ
-refusalOf cs = first_of order cs
+abbrev pub refusal_of : List Check → ℕ
+refusal_of cs = first_of order cs
 
 -- what a call comes to: its work, or what is made of the refusal's number
 abbrev pub outcome : {A : Type 0} → List Check → (ℕ → A) → A → A
-outcome cs refused done = cond (eqb (refusalOf cs) 0) done (refused (refusalOf cs))
+outcome cs refused done = cond (eqb (refusal_of cs) 0) done (refused (refusal_of cs))
 
 -- what a call leaves of a thing that it was given or lent: what its work makes of it, or the thing as it stood
 abbrev pub left : {A : Type 0} → List Check → A → A → A

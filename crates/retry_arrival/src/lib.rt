@@ -1,7 +1,7 @@
 // The arrival of a valid segment: what it is answered with, and what is delivered.
 ghost use Rattle.std.specs.Prelude.{◌≡◌, length};
-ghost use Rattle.refusal.specs.Order.{refusalOf};
-ghost use Rattle.retry_rules.specs.Arrival.{wanted, arrivalChecks, delivery, arrivalOf, arrivalOutput};
+ghost use Rattle.refusal.specs.Order.{refusal_of};
+ghost use Rattle.retry_rules.specs.Arrival.{wanted, arrival_checks, delivery, arrival_of, arrival_output};
 
 use refusal;
 use retry_parts::lent::lay;
@@ -48,7 +48,7 @@ fn arrival_refusal(
     room: bool,
     output: usize,
 ) -> u8
-    ensures { result ≡ refusalOf (arrivalChecks receiver number channel length room output) }
+    ensures { result ≡ refusal_of (arrival_checks receiver number channel length room output) }
 {
     if !receiver_is_ruled(receiver) {
         return refusal::OUT_OF_RANGE;
@@ -83,8 +83,8 @@ pub fn arrival(
     room: bool,
     output: &mut [u8],
 ) -> Arrived
-    ensures { (result ≡ arrivalOf receiver number channel bad (length bytes.now) room (length output.old))
-        × (output.new ≡ arrivalOutput receiver number channel bytes.now room output.old) }
+    ensures { (result ≡ arrival_of receiver number channel bad (length bytes.now) room (length output.old))
+        × (output.new ≡ arrival_output receiver number channel bytes.now room output.old) }
 {
     let refusal = arrival_refusal(receiver, number, channel, bytes.len(), room, output.len());
     if refusal != 0 {

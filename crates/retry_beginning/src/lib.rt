@@ -1,7 +1,7 @@
 // A fresh sender, and a sender that is reset.
 ghost use Rattle.std.specs.Prelude.{◌≡◌};
-ghost use Rattle.refusal.specs.Order.{refusalOf};
-ghost use Rattle.retry_rules.specs.Fresh.{senderWith, freshChecks, freshSenderOf, resetChecks, resetOf};
+ghost use Rattle.refusal.specs.Order.{refusal_of};
+ghost use Rattle.retry_rules.specs.Fresh.{sender_with, fresh_checks, fresh_sender_of, reset_checks, reset_of};
 
 use refusal;
 use retry_parts::numbers::time_is_allowed;
@@ -11,7 +11,7 @@ use segment_size::size_is_allowed;
 
 // Nothing stored, the timer at its start.
 fn sender_with(link: u8, columns: u16, size: u16) -> Sender
-    ensures { result ≡ senderWith link columns size }
+    ensures { result ≡ sender_with link columns size }
 {
     Sender {
         counters: Counters {
@@ -36,7 +36,7 @@ fn sender_with(link: u8, columns: u16, size: u16) -> Sender
 
 // The number that a fresh sender is refused with; 0 is none.
 fn fresh_refusal(columns: u32, size: u32) -> u8
-    ensures { result ≡ refusalOf (freshChecks columns size) }
+    ensures { result ≡ refusal_of (fresh_checks columns size) }
 {
     if !time_is_allowed(columns) {
         return refusal::OUT_OF_RANGE;
@@ -49,7 +49,7 @@ fn fresh_refusal(columns: u32, size: u32) -> u8
 
 // A sender that has stored nothing yet, on a link that is up; refused, there is none.
 pub fn fresh_sender(columns: u32, size: u32) -> Answered
-    ensures { result ≡ freshSenderOf columns size }
+    ensures { result ≡ fresh_sender_of columns size }
 {
     let refusal = fresh_refusal(columns, size);
     if refusal != 0 {
@@ -66,7 +66,7 @@ pub fn fresh_sender(columns: u32, size: u32) -> Answered
 
 // The number that a reset is refused with; 0 is none. A link that is down is no reason.
 fn reset_refusal(sender: Sender, columns: u32, size: u32) -> u8
-    ensures { result ≡ refusalOf (resetChecks sender columns size) }
+    ensures { result ≡ refusal_of (reset_checks sender columns size) }
 {
     if !sender_is_ruled(sender) {
         return refusal::OUT_OF_RANGE;
@@ -76,7 +76,7 @@ fn reset_refusal(sender: Sender, columns: u32, size: u32) -> u8
 
 // A fresh sender in place of the one given; refused, the one given, with all that it stores.
 pub fn reset(sender: Sender, columns: u32, size: u32) -> Answered
-    ensures { result ≡ resetOf sender columns size }
+    ensures { result ≡ reset_of sender columns size }
 {
     let refusal = reset_refusal(sender, columns, size);
     if refusal != 0 {

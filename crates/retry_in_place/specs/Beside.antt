@@ -2,5 +2,5 @@
 use Rattle.retry_rules.specs.declared.Ticked.{Ticked}
 use Rattle.retry_in_place.specs.declared.TickAnswer.{TickAnswer}
 
-abbrev pub tickBeside : Ticked → TickAnswer
-tickBeside a = record { refusal = a.refusal; fell = a.fell }
+abbrev pub tick_beside : Ticked → TickAnswer
+tick_beside a = record { refusal = a.refusal; fell = a.fell }

@@ -1,10 +1,10 @@
 // Document 01: "Each call alters the host's one copy of the sender's counters". Each function takes the sender out from behind the reference, makes the
 // call by value, and puts the sender back; it answers what is left of the answer.
 ghost use Rattle.std.specs.Prelude.{◌≡◌};
-ghost use Rattle.retry_rules.specs.Fresh.{resetOf};
-ghost use Rattle.retry_rules.specs.Reply.{replyOf};
-ghost use Rattle.retry_rules.specs.Tick.{tickOf};
-ghost use Rattle.retry_in_place.specs.Beside.{tickBeside};
+ghost use Rattle.retry_rules.specs.Fresh.{reset_of};
+ghost use Rattle.retry_rules.specs.Reply.{reply_of};
+ghost use Rattle.retry_rules.specs.Tick.{tick_of};
+ghost use Rattle.retry_in_place.specs.Beside.{tick_beside};
 
 use retry_rules::Sender;
 
@@ -16,7 +16,7 @@ pub struct TickAnswer {
 }
 
 pub fn reply_in_place(sender: &mut Sender, nack: bool, number: u32) -> u8
-    ensures { (result ≡ (replyOf sender.old nack number).refusal) × (sender.new ≡ (replyOf sender.old nack number).sender) }
+    ensures { (result ≡ (reply_of sender.old nack number).refusal) × (sender.new ≡ (reply_of sender.old nack number).sender) }
 {
     let heard = retry_replies::reply(*sender, nack, number);
     *sender = heard.sender;
@@ -24,7 +24,7 @@ pub fn reply_in_place(sender: &mut Sender, nack: bool, number: u32) -> u8
 }
 
 pub fn reset_in_place(sender: &mut Sender, columns: u32, size: u32) -> u8
-    ensures { (result ≡ (resetOf sender.old columns size).refusal) × (sender.new ≡ (resetOf sender.old columns size).sender) }
+    ensures { (result ≡ (reset_of sender.old columns size).refusal) × (sender.new ≡ (reset_of sender.old columns size).sender) }
 {
     let begun = retry_beginning::reset(*sender, columns, size);
     *sender = begun.sender;
@@ -32,7 +32,7 @@ pub fn reset_in_place(sender: &mut Sender, columns: u32, size: u32) -> u8
 }
 
 pub fn tick_in_place(sender: &mut Sender) -> TickAnswer
-    ensures { (result ≡ tickBeside (tickOf sender.old)) × (sender.new ≡ (tickOf sender.old).sender) }
+    ensures { (result ≡ tick_beside (tick_of sender.old)) × (sender.new ≡ (tick_of sender.old).sender) }
 {
     let ticked = retry_timer::tick(*sender);
     *sender = ticked.sender;

@@ -6,14 +6,14 @@ use mathlib.Core.List.{List}
 use Prim.Native.Nat.{ℕ, ◌+◌, ◌≤◌, ◌<◌}
 use native.Mathlib.Omega.{arith}
 use lib.ListN.{length}
-use Rattle.refusal.specs.Order.{Check, refusalOf}
+use Rattle.refusal.specs.Order.{Check, refusal_of}
 use Rattle.retry_rules.specs.declared.Sender.{Sender}
 use Rattle.retry_rules.specs.declared.Offered.{Offered}
-use Rattle.retry_rules.specs.Refused.{refusedOffer}
-use Rattle.retry_rules.specs.Lent.{laid, bufferAt}
-use Rattle.retry_rules.specs.Offer.{offerChecks, freeSlot, nextNumber, storedIn, offerOf, offerBuffers}
-use Rattle.segment_size.proofs.Ranges.{size-range}
-use Rattle.retry_rules.proofs.Seen.{Offers, offer-seen}
+use Rattle.retry_rules.specs.Refused.{refused_offer}
+use Rattle.retry_rules.specs.Lent.{laid, buffer_at}
+use Rattle.retry_rules.specs.Offer.{offer_checks, free_slot, next_number, stored_in, offer_of, offer_buffers}
+use Rattle.segment_size.proofs.Ranges.{size_range}
+use Rattle.retry_rules.proofs.Seen.{Offers, offer_seen}
 use Rattle.retry_rules.proofs.Done.{offer-done, offer-lays}
 use Rattle.retry_parts.proofs.Calls.{refuses}
 use Rattle.retry_slots.proofs.Below.{within}
@@ -28,7 +28,7 @@ pub record Offer : Type 0 where
 
 module _ (v : Offer) where
   abbrev checks : List Check
-  checks = offerChecks v.sender (length v.buffers) v.channel (length v.bytes)
+  checks = offer_checks v.sender (length v.buffers) v.channel (length v.bytes)
 
   abbrev pub Passed : Type 0
   Passed = Offers v.sender (length v.buffers) v.channel (length v.bytes)
@@ -36,29 +36,29 @@ module _ (v : Offer) where
   -- the answer and the buffers, as the contract has them
   abbrev pub Ruled : Offered → List ℕ → Type 0
   Ruled a left =
-      (a ≡ offerOf v.sender (length v.buffers) v.channel v.bad (length v.bytes))
-      × (left ≡ offerBuffers v.sender v.buffers v.channel v.bytes)
+      (a ≡ offer_of v.sender (length v.buffers) v.channel v.bad (length v.bytes))
+      × (left ≡ offer_buffers v.sender v.buffers v.channel v.bytes)
 
-  pub passed : (n : ℕ) → n ≡ refusalOf checks → n ≡ 0 → Passed
-  passed n is z = offer-seen v.sender (length v.buffers) v.channel (length v.bytes) (sym is ∙ z)
+  pub passed : (n : ℕ) → n ≡ refusal_of checks → n ≡ 0 → Passed
+  passed n is z = offer_seen v.sender (length v.buffers) v.channel (length v.bytes) (sym is ∙ z)
 
-  pub refused-offer : (n : ℕ) (a : Offered) → n ≡ refusalOf checks → (n ≡ 0 → ⊥) → a ≡ refusedOffer v.sender n → Ruled a v.buffers
-  unfolding offerOf offerBuffers
-  refused-offer n a is h e =
-      (refuses checks n is (refusedOffer v.sender) _ h e, refuses checks n is (λ _. v.buffers) _ h refl)
+  pub refused_offer_lem : (n : ℕ) (a : Offered) → n ≡ refusal_of checks → (n ≡ 0 → ⊥) → a ≡ refused_offer v.sender n → Ruled a v.buffers
+  unfolding offer_of offer_buffers
+  refused_offer_lem n a is h e =
+      (refuses checks n is (refused_offer v.sender) _ h e, refuses checks n is (λ _. v.buffers) _ h refl)
 
   module _ (p : Passed) where
     -- the bytes fit the free buffer, and their length a number of sixteen bits
-    pub fits-buffer : (at : ℕ) → at ≡ bufferAt v.sender (freeSlot v.sender.counters) → at + length v.bytes ≤ length v.buffers
-    fits-buffer at is = omega (arith, p.most, p.buffers, within v.sender.counters v.sender.counters.stored at is)
+    pub fits_buffer : (at : ℕ) → at ≡ buffer_at v.sender (free_slot v.sender.counters) → at + length v.bytes ≤ length v.buffers
+    fits_buffer at is = omega (arith, p.most, p.buffers, within v.sender.counters v.sender.counters.stored at is)
 
-    pub fits-length : length v.bytes < 65536
-    fits-length = omega (arith, p.most, size-range v.sender.counters.size p.sound.rule.size)
+    pub fits_length : length v.bytes < 65536
+    fits_length = omega (arith, p.most, size_range v.sender.counters.size p.sound.rule.size)
 
     pub stores :
         (a : Offered) (left : List ℕ)
-        → a ≡ record { refusal = 0; number = nextNumber v.sender.counters; sender = storedIn v.sender v.channel v.bad (length v.bytes) }
-        → left ≡ laid v.buffers (bufferAt v.sender (freeSlot v.sender.counters)) v.bytes → Ruled a left
+        → a ≡ record { refusal = 0; number = next_number v.sender.counters; sender = stored_in v.sender v.channel v.bad (length v.bytes) }
+        → left ≡ laid v.buffers (buffer_at v.sender (free_slot v.sender.counters)) v.bytes → Ruled a left
     stores a left e f = (
       e ∙ sym (offer-done v.sender (length v.buffers) v.channel v.bad (length v.bytes) p),
       f ∙ sym (offer-lays v.sender v.buffers v.channel v.bytes p),

@@ -1,7 +1,7 @@
 // An offer: a segment is stored in one of the sender's eight buffers, one lent run of 8 times S bytes.
 ghost use Rattle.std.specs.Prelude.{◌≡◌, ◌<◌, length};
-ghost use Rattle.refusal.specs.Order.{refusalOf};
-ghost use Rattle.retry_rules.specs.Offer.{offerChecks, storedIn, offerOf, offerBuffers};
+ghost use Rattle.refusal.specs.Order.{refusal_of};
+ghost use Rattle.retry_rules.specs.Offer.{offer_checks, stored_in, offer_of, offer_buffers};
 
 use refusal;
 use retry_parts::lent::lay;
@@ -12,7 +12,7 @@ use retry_state::sender_is_ruled;
 
 // The number that an offer is refused with; 0 is none.
 fn offer_refusal(sender: Sender, lent: usize, channel: u32, length: usize) -> u8
-    ensures { result ≡ refusalOf (offerChecks sender lent channel length) }
+    ensures { result ≡ refusal_of (offer_checks sender lent channel length) }
 {
     let c = sender.counters;
     if c.link == DOWN {
@@ -42,7 +42,7 @@ fn offer_refusal(sender: Sender, lent: usize, channel: u32, length: usize) -> u8
 // One more is stored, in the free buffer, and waits.
 fn stored_in(sender: Sender, channel: u8, bad: bool, length: u16) -> Sender
     requires { sender.counters.stored < 8 }
-    ensures { result ≡ storedIn sender channel bad length }
+    ensures { result ≡ stored_in sender channel bad length }
 {
     let mut c = sender.counters;
     let free = slot_of(c, c.stored);
@@ -66,8 +66,8 @@ fn stored_in(sender: Sender, channel: u8, bad: bool, length: u16) -> Sender
 
 // An offer: a segment is stored, if there is a free buffer, and gets the number after the last stored one.
 pub fn offer(sender: Sender, buffers: &mut [u8], channel: u32, bad: bool, bytes: &[u8]) -> Offered
-    ensures { (result ≡ offerOf sender (length buffers.old) channel bad (length bytes.now))
-        × (buffers.new ≡ offerBuffers sender buffers.old channel bytes.now) }
+    ensures { (result ≡ offer_of sender (length buffers.old) channel bad (length bytes.now))
+        × (buffers.new ≡ offer_buffers sender buffers.old channel bytes.now) }
 {
     let refusal = offer_refusal(sender, buffers.len(), channel, bytes.len());
     if refusal != 0 {

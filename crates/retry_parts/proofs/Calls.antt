@@ -5,11 +5,11 @@ use mathlib.Core.List.{List}
 use Prim.Native.Nat.{ℕ}
 use lib.Dec.{eqb}
 use borrow.Author.Tests.{eqb-true}
-use Rattle.laws.proofs.Cases.{by-test, cond-true, cond-false}
-use Rattle.refusal.specs.Order.{Check, refusalOf, outcome}
+use Rattle.laws.proofs.Cases.{by_test, cond_true, cond_false}
+use Rattle.refusal.specs.Order.{Check, refusal_of, outcome}
 use Rattle.refusal.proofs.Laws.{done, refused}
 
-module _ {A : Type 0} (cs : List Check) (n : ℕ) (is : n ≡ refusalOf cs) (f : ℕ → A) (x : A) {r : A} where
+module _ {A : Type 0} (cs : List Check) (n : ℕ) (is : n ≡ refusal_of cs) (f : ℕ → A) (x : A) {r : A} where
   -- it is refused, and its answer is what is made of the number
   pub refuses : (n ≡ 0 → ⊥) → r ≡ f n → r ≡ outcome cs f x
   refuses h e = e ∙ ap f is ∙ sym (refused cs f x (λ z. h (is ∙ z)))
@@ -19,8 +19,8 @@ module _ {A : Type 0} (cs : List Check) (n : ℕ) (is : n ≡ refusalOf cs) (f :
   works h e = e ∙ sym (done cs f x (sym is ∙ h))
 
 -- a call that answers with its refusal's number, whatever it is
-pub answers_number : {A : Type 0} (cs : List Check) (n : ℕ) → n ≡ refusalOf cs → (f : ℕ → A) → f n ≡ outcome cs f (f 0)
+pub answers_number : {A : Type 0} (cs : List Check) (n : ℕ) → n ≡ refusal_of cs → (f : ℕ → A) → f n ≡ outcome cs f (f 0)
 answers_number cs n is f =
-    by-test (eqb (refusalOf cs) 0)
-    (λ t. ap f (is ∙ eqb-true (refusalOf cs) 0 t) ∙ sym (cond-true (eqb (refusalOf cs) 0) (f 0) (f (refusalOf cs)) t))
-    (λ t. ap f is ∙ sym (cond-false (eqb (refusalOf cs) 0) (f 0) (f (refusalOf cs)) t))
+    by_test (eqb (refusal_of cs) 0)
+    (λ t. ap f (is ∙ eqb-true (refusal_of cs) 0 t) ∙ sym (cond_true (eqb (refusal_of cs) 0) (f 0) (f (refusal_of cs)) t))
+    (λ t. ap f is ∙ sym (cond_false (eqb (refusal_of cs) 0) (f 0) (f (refusal_of cs)) t))

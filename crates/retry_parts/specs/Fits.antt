@@ -2,8 +2,8 @@
 use Rattle.std.specs.Prelude.{ℕ, ◌+◌, Bool, cond, List, leb, length}
 use Rattle.retry_rules.specs.Lent.{laid}
 
-abbrev pub fitsAt : List ℕ → ℕ → List ℕ → Bool
-fitsAt old at bytes = leb (at + length bytes) (length old)
+abbrev pub fits_at : List ℕ → ℕ → List ℕ → Bool
+fits_at old at bytes = leb (at + length bytes) (length old)
 
-abbrev pub laidIfFits : List ℕ → ℕ → List ℕ → List ℕ
-laidIfFits old at bytes = cond (fitsAt old at bytes) (laid old at bytes) old
+abbrev pub laid_if_fits : List ℕ → ℕ → List ℕ → List ℕ
+laid_if_fits old at bytes = cond (fits_at old at bytes) (laid old at bytes) old

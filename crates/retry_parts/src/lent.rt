@@ -1,10 +1,10 @@
 // Lent bytes.
 ghost use Rattle.std.specs.Prelude.{◌≡◌};
-ghost use Rattle.retry_parts.specs.Fits.{fitsAt, laidIfFits};
+ghost use Rattle.retry_parts.specs.Fits.{fits_at, laid_if_fits};
 
 // Lays all of `bytes` over what stands in `into` from a place on, if they fit there, and says whether they did.
 pub fn lay(bytes: &[u8], into: &mut [u8], at: usize) -> bool
-    ensures { (result ≡ fitsAt into.old at bytes.now) × (into.new ≡ laidIfFits into.old at bytes.now) }
+    ensures { (result ≡ fits_at into.old at bytes.now) × (into.new ≡ laid_if_fits into.old at bytes.now) }
 {
     if into.len() < at {
         return false;

@@ -1,10 +1,10 @@
 // Segment numbers, 0 to 15 and round, and the two numbers that an end is made with.
 ghost use Rattle.std.specs.Prelude.{◌≡◌};
-ghost use Rattle.retry_rules.specs.Numbers.{timeAllowed, after, between, amongLast, oneMore, countRule};
+ghost use Rattle.retry_rules.specs.Numbers.{time_allowed, after, between, among_last, one_more, count_rule};
 
 // T columns, 1 to 65,535.
 pub fn time_is_allowed(columns: u32) -> bool
-    ensures { result ≡ timeAllowed columns }
+    ensures { result ≡ time_allowed columns }
 {
     if columns == 0 {
         return false;
@@ -21,7 +21,7 @@ pub fn after(n: u8, i: u8) -> u8
 
 // One more of the last eight.
 pub fn one_more(count: u8) -> u8
-    ensures { result ≡ oneMore count }
+    ensures { result ≡ one_more count }
 {
     if count < 8 { count + 1 } else { 8 }
 }
@@ -40,14 +40,14 @@ fn between(k: u8, n: u8) -> u8
 
 // k is one of the last `count` numbers before n: the count of those that really were judges, not the remainder alone.
 pub fn among_last(count: u8, n: u8, k: u8) -> bool
-    ensures { result ≡ amongLast count n k }
+    ensures { result ≡ among_last count n k }
 {
     between(k, n) < count
 }
 
 // With fewer than eight counted, the number is the count: so it is from fresh.
 pub fn count_is_ruled(n: u8, count: u8) -> bool
-    ensures { result ≡ countRule n count }
+    ensures { result ≡ count_rule n count }
 {
     if count < 8 {
         return n == count;

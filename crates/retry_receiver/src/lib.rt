@@ -1,9 +1,9 @@
 // The receiver: its rule, a fresh one, and what it answers where nothing is delivered.
 ghost use Rattle.std.specs.Prelude.{◌≡◌};
-ghost use Rattle.retry_rules.specs.States.{receiverRule};
-ghost use Rattle.retry_rules.specs.Refused.{refusedReceiver, refusedArrival};
-ghost use Rattle.retry_rules.specs.Fresh.{freshReceiver, freshReceiverOf};
-ghost use Rattle.retry_rules.specs.Arrival.{undelivered, nackOf, damagedArrivalOf};
+ghost use Rattle.retry_rules.specs.States.{receiver_rule};
+ghost use Rattle.retry_rules.specs.Refused.{refused_receiver, refused_arrival};
+ghost use Rattle.retry_rules.specs.Fresh.{fresh_receiver, fresh_receiver_of};
+ghost use Rattle.retry_rules.specs.Arrival.{undelivered, nack_of, damaged_arrival_of};
 
 use refusal;
 use retry_parts::numbers::count_is_ruled;
@@ -12,7 +12,7 @@ use segment_size::size_is_allowed;
 
 // The written rule of a receiver.
 pub fn receiver_is_ruled(receiver: Receiver) -> bool
-    ensures { result ≡ receiverRule receiver }
+    ensures { result ≡ receiver_rule receiver }
 {
     if size_is_allowed(receiver.size as u32) {
         return count_is_ruled(receiver.expected, receiver.received);
@@ -22,7 +22,7 @@ pub fn receiver_is_ruled(receiver: Receiver) -> bool
 
 // Nothing received, and number 0 expected. Of size 0 it is no receiver.
 fn begun(refusal: u8, size: u16) -> Begun
-    ensures { result ≡ refusedReceiver (freshReceiver size) refusal }
+    ensures { result ≡ refused_receiver (fresh_receiver size) refusal }
 {
     Begun {
         refusal,
@@ -36,7 +36,7 @@ fn begun(refusal: u8, size: u16) -> Begun
 
 // A receiver that has received nothing; refused, there is none.
 pub fn fresh_receiver(size: u32) -> Begun
-    ensures { result ≡ freshReceiverOf size }
+    ensures { result ≡ fresh_receiver_of size }
 {
     if size_is_allowed(size) {
         return begun(0, size as u16);
@@ -46,7 +46,7 @@ pub fn fresh_receiver(size: u32) -> Begun
 
 // A refusal hands back the receiver that was given.
 pub fn refused(receiver: Receiver, refusal: u8) -> Arrived
-    ensures { result ≡ refusedArrival receiver refusal }
+    ensures { result ≡ refused_arrival receiver refusal }
 {
     Arrived {
         refusal,
@@ -78,14 +78,14 @@ pub fn undelivered(nack: bool, number: u8, receiver: Receiver) -> Arrived
 
 // A NACK carries the expected number.
 pub fn nack(receiver: Receiver) -> Arrived
-    ensures { result ≡ nackOf receiver }
+    ensures { result ≡ nack_of receiver }
 {
     undelivered(true, receiver.expected, receiver)
 }
 
 // The arrival of a damaged segment, which brings neither number nor bytes.
 pub fn damaged_arrival(receiver: Receiver) -> Arrived
-    ensures { result ≡ damagedArrivalOf receiver }
+    ensures { result ≡ damaged_arrival_of receiver }
 {
     if receiver_is_ruled(receiver) {
         return nack(receiver);

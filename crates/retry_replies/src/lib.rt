@@ -1,7 +1,7 @@
 // What the sender makes of a reply, ACK or NACK with a number, and of a damaged one.
 ghost use Rattle.std.specs.Prelude.{◌≡◌, eqb, ◌<◌, ◌≤◌, ◌-◌};
-ghost use Rattle.refusal.specs.Order.{refusalOf};
-ghost use Rattle.retry_rules.specs.Reply.{toOldest, restarted, oneReleased, acked, nacked, heard, replyChecks, withCounters, replyOf, damagedReplyOf};
+ghost use Rattle.refusal.specs.Order.{refusal_of};
+ghost use Rattle.retry_rules.specs.Reply.{to_oldest, restarted, one_released, acked, nacked, heard, reply_checks, with_counters, reply_of, damaged_reply_of};
 
 use refusal;
 use retry_parts::numbers::{after, among_last, one_more};
@@ -10,7 +10,7 @@ use retry_state::{sender_is_ruled, sender_refusal};
 
 // Send point to the oldest.
 fn to_oldest(c: Counters) -> Counters
-    ensures { result ≡ toOldest c }
+    ensures { result ≡ to_oldest c }
 {
     let mut d = c;
     d.point = 0;
@@ -37,7 +37,7 @@ fn moved_up(point: u8) -> u8
 // The oldest is released; a send point left behind moves up.
 fn one_released(c: Counters) -> Counters
     requires { (0 < c.outstanding) × (c.outstanding ≤ c.stored) }
-    ensures { result ≡ oneReleased c }
+    ensures { result ≡ one_released c }
 {
     let mut d = c;
     d.oldest = after(c.oldest, 1);
@@ -96,7 +96,7 @@ fn heard(c: Counters, nack: bool, number: u8) -> Counters
 
 // The sender with other counters; its slots as they were.
 fn with_counters(sender: Sender, counters: Counters) -> Sender
-    ensures { result ≡ withCounters sender counters }
+    ensures { result ≡ with_counters sender counters }
 {
     let slots = sender.slots;
     Sender { counters, slots }
@@ -104,7 +104,7 @@ fn with_counters(sender: Sender, counters: Counters) -> Sender
 
 // The number that a reply is refused with; 0 is none.
 fn reply_refusal(sender: Sender, number: u32) -> u8
-    ensures { result ≡ refusalOf (replyChecks sender number) }
+    ensures { result ≡ refusal_of (reply_checks sender number) }
 {
     let c = sender.counters;
     if c.link == DOWN {
@@ -121,7 +121,7 @@ fn reply_refusal(sender: Sender, number: u32) -> u8
 
 // A reply: `nack` false is ACK.
 pub fn reply(sender: Sender, nack: bool, number: u32) -> Answered
-    ensures { result ≡ replyOf sender nack number }
+    ensures { result ≡ reply_of sender nack number }
 {
     let refusal = reply_refusal(sender, number);
     if refusal != 0 {
@@ -136,7 +136,7 @@ pub fn reply(sender: Sender, nack: bool, number: u32) -> Answered
 
 // A damaged reply is ignored.
 pub fn damaged_reply(sender: Sender) -> Answered
-    ensures { result ≡ damagedReplyOf sender }
+    ensures { result ≡ damaged_reply_of sender }
 {
     let refusal = sender_refusal(sender);
     Answered { refusal, sender }

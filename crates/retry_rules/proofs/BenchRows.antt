@@ -1,61 +1,61 @@
 -- The bench's rows on the retry, and the further runs, hold of the definitions.
 -- Assumes nothing.
 use mathlib.Core.Path.{refl}
-use Rattle.retry_rules.specs.Numbers.{amongLast, countRule}
-use Rattle.segment_size.specs.Sizes.{sizeAllowed}
-use Rattle.retry_rules.specs.States.{linkRule, timerRule, windowRule, countersRule, slotRule, slotsRule, senderRule, receiverRule}
-use Rattle.retry_rules.specs.Fresh.{freshSenderOf, freshReceiverOf, freshChecks, sizeChecks, resetChecks, resetOf}
-use Rattle.retry_rules.specs.Lent.{laid, heldBytes}
-use Rattle.retry_rules.specs.Offer.{offerChecks, offerOf, offerBuffers}
-use Rattle.retry_rules.specs.Send.{sendChecks, sendOf, sendOutput}
-use Rattle.retry_rules.specs.Reply.{acked, nacked, heard, senderChecks, replyChecks, replyOf}
-use Rattle.retry_rules.specs.Tick.{ticked, tickOf}
-use Rattle.retry_rules.specs.Arrival.{arrivalChecks, answerTo, arrivalOf, arrivalOutput, receiverChecks, damagedArrivalOf}
+use Rattle.retry_rules.specs.Numbers.{among_last, count_rule}
+use Rattle.segment_size.specs.Sizes.{size_allowed}
+use Rattle.retry_rules.specs.States.{link_rule, timer_rule, window_rule, counters_rule, slot_rule, slots_rule, sender_rule, receiver_rule}
+use Rattle.retry_rules.specs.Fresh.{fresh_sender_of, fresh_receiver_of, fresh_checks, size_checks, reset_checks, reset_of}
+use Rattle.retry_rules.specs.Lent.{laid, held_bytes}
+use Rattle.retry_rules.specs.Offer.{offer_checks, offer_of, offer_buffers}
+use Rattle.retry_rules.specs.Send.{send_checks, send_of, send_output}
+use Rattle.retry_rules.specs.Reply.{acked, nacked, heard, sender_checks, reply_checks, reply_of}
+use Rattle.retry_rules.specs.Tick.{ticked, tick_of}
+use Rattle.retry_rules.specs.Arrival.{arrival_checks, answer_to, arrival_of, arrival_output, receiver_checks, damaged_arrival_of}
 use Rattle.retry_rules.specs.Bench.{Rows}
 use Rattle.retry_rules.specs.Runs.{Runs}
 
 pub rows : Rows
-unfolding sizeAllowed amongLast countRule linkRule timerRule windowRule countersRule slotRule slotsRule senderRule receiverRule freshChecks sizeChecks freshSenderOf freshReceiverOf offerChecks offerOf sendChecks sendOf acked nacked heard senderChecks replyChecks replyOf arrivalChecks answerTo arrivalOf
+unfolding size_allowed among_last count_rule link_rule timer_rule window_rule counters_rule slot_rule slots_rule sender_rule receiver_rule fresh_checks size_checks fresh_sender_of fresh_receiver_of offer_checks offer_of send_checks send_of acked nacked heard sender_checks reply_checks reply_of arrival_checks answer_to arrival_of
 rows =
     record {
-      fresh-12 = refl;
-      three-11 = refl;
-      three-2 = refl;
-      ten-2 = refl;
-      ten-1 = refl;
-      nack-then-ack = (refl, refl, refl);
-      ack-2 = (refl, refl, refl);
-      ack-12 = (refl, refl, refl);
+      fresh_12 = refl;
+      three_11 = refl;
+      three_2 = refl;
+      ten_2 = refl;
+      ten_1 = refl;
+      nack_then_ack = (refl, refl, refl);
+      ack_2 = (refl, refl, refl);
+      ack_12 = (refl, refl, refl);
       eighth = refl;
       ninth = refl;
-      size-8 = refl;
-      size-4 = refl;
-      size-12 = refl;
+      size_8 = refl;
+      size_4 = refl;
+      size_12 = refl;
     }
 
 pub runs : Runs
-unfolding sizeAllowed amongLast countRule linkRule timerRule windowRule countersRule slotRule slotsRule senderRule receiverRule freshChecks freshSenderOf resetChecks resetOf sizeChecks freshReceiverOf offerChecks offerOf sendChecks sendOf acked nacked heard senderChecks replyChecks replyOf ticked tickOf arrivalChecks answerTo arrivalOf arrivalOutput receiverChecks damagedArrivalOf laid heldBytes offerBuffers sendOutput
+unfolding size_allowed among_last count_rule link_rule timer_rule window_rule counters_rule slot_rule slots_rule sender_rule receiver_rule fresh_checks fresh_sender_of reset_checks reset_of size_checks fresh_receiver_of offer_checks offer_of send_checks send_of acked nacked heard sender_checks reply_checks reply_of ticked tick_of arrival_checks answer_to arrival_of arrival_output receiver_checks damaged_arrival_of laid held_bytes offer_buffers send_output
 runs =
     record {
-      third-offered = refl;
-      nack-clears = refl;
-      nack-restarts = refl;
-      other-nack = refl;
-      ack-again = refl;
+      third_offered = refl;
+      nack_clears = refl;
+      nack_restarts = refl;
+      other_nack = refl;
+      ack_again = refl;
       resend = refl;
       third = (refl, refl);
       third-leaves = (refl, refl, refl);
       down = refl;
-      up-again = refl;
-      reset-refused = (refl, refl);
+      up_again = refl;
+      reset_refused = (refl, refl);
       idle = (refl, refl);
       no_room = refl;
-      repeated-no-room = refl;
+      repeated_no_room = refl;
       short = refl;
       exact = refl;
       both_stored = (refl, refl);
-      second-sent = refl;
+      second_sent = refl;
       delivered = refl;
-      not-delivered = refl;
+      not_delivered = refl;
       zeros = (refl, refl, refl, refl);
     }

@@ -6,12 +6,12 @@ use mathlib.Core.Logic.{◌↔◌}
 use Prim.Native.Nat.{ℕ, ◌-◌, ◌%◌, ◌<◌, min}
 use native.Mathlib.Omega.{arith}
 use borrow.Author.Tests.{ltb-true, lt-ltb}
-use Rattle.retry_rules.specs.Numbers.{between, amongLast}
+use Rattle.retry_rules.specs.Numbers.{between, among_last}
 use Rattle.retry_rules.specs.History.{Recent}
 
-pub last-eight : (e k : ℕ) → k < 16 → (amongLast (min e 8) (e % 16) k ≡ true) ↔ Recent e k
-unfolding amongLast
-last-eight e k h = (
+pub last_eight : (e k : ℕ) → k < 16 → (among_last (min e 8) (e % 16) k ≡ true) ↔ Recent e k
+unfolding among_last
+last_eight e k h = (
   λ q.
       let lt = ltb-true (between k (e % 16)) (min e 8) q in
       (e - 1 - between k (e % 16), omega arith, omega arith, omega arith),
@@ -24,8 +24,8 @@ last-eight e k h = (
 )
 
 -- it is not the next number
-pub recent-not-next : (e k : ℕ) → Recent e k → k ≡ e % 16 → ⊥
-recent-not-next e k r p =
+pub recent_not_next : (e k : ℕ) → Recent e k → k ≡ e % 16 → ⊥
+recent_not_next e k r p =
     let j = r.0 in
     let h₁ = r.1 in
     let h₂ = r.2 in

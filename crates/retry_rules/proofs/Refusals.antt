@@ -7,8 +7,8 @@ use Prim.Native.Nat.{ℕ}
 use lib.ListN.{length}
 use lib.Dec.{eqb}
 use Rattle.laws.proofs.Cases.{by_cases}
-use Rattle.refusal.specs.Order.{refusalOf}
-use Rattle.refusal.proofs.Laws.{hands-back}
+use Rattle.refusal.specs.Order.{refusal_of}
+use Rattle.refusal.proofs.Laws.{hands_back}
 use Rattle.retry_rules.specs.declared.Sender.{Sender}
 use Rattle.retry_rules.specs.declared.Receiver.{Receiver}
 use Rattle.retry_rules.specs.declared.Answered.{Answered}
@@ -17,157 +17,157 @@ use Rattle.retry_rules.specs.declared.Sent.{Sent}
 use Rattle.retry_rules.specs.declared.Ticked.{Ticked}
 use Rattle.retry_rules.specs.declared.Begun.{Begun}
 use Rattle.retry_rules.specs.declared.Arrived.{Arrived}
-use Rattle.retry_rules.specs.Numbers.{amongLast}
-use Rattle.retry_rules.specs.Refused.{refusedSender, refusedOffer, refusedSend, refusedTick, refusedReceiver, refusedArrival}
-use Rattle.retry_rules.specs.Fresh.{noSender, noReceiver, freshChecks, freshSenderOf, sizeChecks, freshReceiverOf, resetChecks, resetOf}
-use Rattle.retry_rules.specs.Offer.{offerChecks, offerOf, offerBuffers}
-use Rattle.retry_rules.specs.Send.{toSend, sendChecks, sendOf, sendOutput}
-use Rattle.retry_rules.specs.Reply.{senderChecks, replyChecks, replyOf, damagedReplyOf}
-use Rattle.retry_rules.specs.Tick.{tickOf}
-use Rattle.retry_rules.specs.Arrival.{arrivalChecks, answerTo, arrivalOf, arrivalOutput, receiverChecks, damagedArrivalOf}
+use Rattle.retry_rules.specs.Numbers.{among_last}
+use Rattle.retry_rules.specs.Refused.{refused_sender, refused_offer, refused_send, refused_tick, refused_receiver, refused_arrival}
+use Rattle.retry_rules.specs.Fresh.{no_sender, no_receiver, fresh_checks, fresh_sender_of, size_checks, fresh_receiver_of, reset_checks, reset_of}
+use Rattle.retry_rules.specs.Offer.{offer_checks, offer_of, offer_buffers}
+use Rattle.retry_rules.specs.Send.{to_send, send_checks, send_of, send_output}
+use Rattle.retry_rules.specs.Reply.{sender_checks, reply_checks, reply_of, damaged_reply_of}
+use Rattle.retry_rules.specs.Tick.{tick_of}
+use Rattle.retry_rules.specs.Arrival.{arrival_checks, answer_to, arrival_of, arrival_output, receiver_checks, damaged_arrival_of}
 use Rattle.refusal.proofs.Outcomes.{number_is, leaves-answer}
 
 -- the number that each call answers with is that of its checks
 module _ (s : Sender) where
-  pub offer-number : (lent channel : ℕ) (bad : Bool) (n : ℕ) → (offerOf s lent channel bad n).refusal ≡ refusalOf (offerChecks s lent channel n)
-  unfolding offerOf
-  offer-number lent channel bad n =
-      number_is (offerChecks s lent channel n) (λ (a : Offered). a.refusal) (refusedOffer s) _ (λ _. refl) refl
+  pub offer_number : (lent channel : ℕ) (bad : Bool) (n : ℕ) → (offer_of s lent channel bad n).refusal ≡ refusal_of (offer_checks s lent channel n)
+  unfolding offer_of
+  offer_number lent channel bad n =
+      number_is (offer_checks s lent channel n) (λ (a : Offered). a.refusal) (refused_offer s) _ (λ _. refl) refl
 
-  pub send-number : (lent output : ℕ) → (sendOf s lent output).refusal ≡ refusalOf (sendChecks s lent output)
-  unfolding sendOf
-  send-number lent output =
-      number_is (sendChecks s lent output) (λ (a : Sent). a.refusal) (refusedSend s) _ (λ _. refl)
-      (by_cases (λ (a : Sent). a.refusal ≡ 0) (toSend s.counters) (λ _. refl) (λ _. refl))
+  pub send_number : (lent output : ℕ) → (send_of s lent output).refusal ≡ refusal_of (send_checks s lent output)
+  unfolding send_of
+  send_number lent output =
+      number_is (send_checks s lent output) (λ (a : Sent). a.refusal) (refused_send s) _ (λ _. refl)
+      (by_cases (λ (a : Sent). a.refusal ≡ 0) (to_send s.counters) (λ _. refl) (λ _. refl))
 
-  pub reply-number : (nack : Bool) (k : ℕ) → (replyOf s nack k).refusal ≡ refusalOf (replyChecks s k)
-  unfolding replyOf
-  reply-number nack k =
-      number_is (replyChecks s k) (λ (a : Answered). a.refusal) (refusedSender s) _ (λ _. refl) refl
+  pub reply_number : (nack : Bool) (k : ℕ) → (reply_of s nack k).refusal ≡ refusal_of (reply_checks s k)
+  unfolding reply_of
+  reply_number nack k =
+      number_is (reply_checks s k) (λ (a : Answered). a.refusal) (refused_sender s) _ (λ _. refl) refl
 
-  pub damaged-reply-number : (damagedReplyOf s).refusal ≡ refusalOf (senderChecks s)
-  unfolding damagedReplyOf
-  damaged-reply-number =
-      number_is (senderChecks s) (λ (a : Answered). a.refusal) (refusedSender s) _ (λ _. refl) refl
+  pub damaged_reply_number : (damaged_reply_of s).refusal ≡ refusal_of (sender_checks s)
+  unfolding damaged_reply_of
+  damaged_reply_number =
+      number_is (sender_checks s) (λ (a : Answered). a.refusal) (refused_sender s) _ (λ _. refl) refl
 
-  pub tick-number : (tickOf s).refusal ≡ refusalOf (senderChecks s)
-  unfolding tickOf
-  tick-number =
-      number_is (senderChecks s) (λ (a : Ticked). a.refusal) (refusedTick s) _ (λ _. refl) refl
+  pub tick_number : (tick_of s).refusal ≡ refusal_of (sender_checks s)
+  unfolding tick_of
+  tick_number =
+      number_is (sender_checks s) (λ (a : Ticked). a.refusal) (refused_tick s) _ (λ _. refl) refl
 
-  pub reset-number : (t size : ℕ) → (resetOf s t size).refusal ≡ refusalOf (resetChecks s t size)
-  unfolding resetOf
-  reset-number t size =
-      number_is (resetChecks s t size) (λ (a : Answered). a.refusal) (refusedSender s) _ (λ _. refl) refl
+  pub reset_number : (t size : ℕ) → (reset_of s t size).refusal ≡ refusal_of (reset_checks s t size)
+  unfolding reset_of
+  reset_number t size =
+      number_is (reset_checks s t size) (λ (a : Answered). a.refusal) (refused_sender s) _ (λ _. refl) refl
 
 module _ (r : Receiver) where
-  answered : (k channel : ℕ) (bad : Bool) (n : ℕ) (room : Bool) → (answerTo r k channel bad n room).refusal ≡ 0
-  unfolding answerTo
+  answered : (k channel : ℕ) (bad : Bool) (n : ℕ) (room : Bool) → (answer_to r k channel bad n room).refusal ≡ 0
+  unfolding answer_to
   answered k channel bad n room =
       let P : Arrived → Type 0 = λ a. a.refusal ≡ 0 in
       by_cases P (eqb k r.expected) (λ _. by_cases P room (λ _. refl) (λ _. refl))
-      (λ _. by_cases P (amongLast r.received r.expected k) (λ _. refl) (λ _. refl))
+      (λ _. by_cases P (among_last r.received r.expected k) (λ _. refl) (λ _. refl))
 
-  pub arrival-number : (k channel : ℕ) (bad : Bool) (n : ℕ) (room : Bool) (output : ℕ)
-      → (arrivalOf r k channel bad n room output).refusal ≡ refusalOf (arrivalChecks r k channel n room output)
-  unfolding arrivalOf answerTo
-  arrival-number k channel bad n room output =
-      number_is (arrivalChecks r k channel n room output) (λ (a : Arrived). a.refusal) (refusedArrival r) _ (λ _. refl) (answered k channel bad n room)
+  pub arrival_number : (k channel : ℕ) (bad : Bool) (n : ℕ) (room : Bool) (output : ℕ)
+      → (arrival_of r k channel bad n room output).refusal ≡ refusal_of (arrival_checks r k channel n room output)
+  unfolding arrival_of answer_to
+  arrival_number k channel bad n room output =
+      number_is (arrival_checks r k channel n room output) (λ (a : Arrived). a.refusal) (refused_arrival r) _ (λ _. refl) (answered k channel bad n room)
 
-  pub damaged-arrival-number : (damagedArrivalOf r).refusal ≡ refusalOf (receiverChecks r)
-  unfolding damagedArrivalOf
-  damaged-arrival-number =
-      number_is (receiverChecks r) (λ (a : Arrived). a.refusal) (refusedArrival r) _ (λ _. refl) refl
+  pub damaged_arrival_number : (damaged_arrival_of r).refusal ≡ refusal_of (receiver_checks r)
+  unfolding damaged_arrival_of
+  damaged_arrival_number =
+      number_is (receiver_checks r) (λ (a : Arrived). a.refusal) (refused_arrival r) _ (λ _. refl) refl
 
 -- and a refused call answers with that number, zeros and the state it was given
 module _ (s : Sender) where
-  pub offer-refused : (lent channel : ℕ) (bad : Bool) (n : ℕ) → ((offerOf s lent channel bad n).refusal ≡ 0 → ⊥)
-      → offerOf s lent channel bad n ≡ refusedOffer s (offerOf s lent channel bad n).refusal
-  unfolding offerOf
-  offer-refused lent channel bad n =
-      leaves-answer (offerChecks s lent channel n) (λ (a : Offered). a.refusal) (refusedOffer s) _ (λ _. refl) refl
+  pub offer_refused : (lent channel : ℕ) (bad : Bool) (n : ℕ) → ((offer_of s lent channel bad n).refusal ≡ 0 → ⊥)
+      → offer_of s lent channel bad n ≡ refused_offer s (offer_of s lent channel bad n).refusal
+  unfolding offer_of
+  offer_refused lent channel bad n =
+      leaves-answer (offer_checks s lent channel n) (λ (a : Offered). a.refusal) (refused_offer s) _ (λ _. refl) refl
 
-  pub send-refused : (lent output : ℕ) → ((sendOf s lent output).refusal ≡ 0 → ⊥) → sendOf s lent output ≡ refusedSend s (sendOf s lent output).refusal
-  unfolding sendOf
-  send-refused lent output =
-      leaves-answer (sendChecks s lent output) (λ (a : Sent). a.refusal) (refusedSend s) _ (λ _. refl)
-      (by_cases (λ (a : Sent). a.refusal ≡ 0) (toSend s.counters) (λ _. refl) (λ _. refl))
+  pub send_refused : (lent output : ℕ) → ((send_of s lent output).refusal ≡ 0 → ⊥) → send_of s lent output ≡ refused_send s (send_of s lent output).refusal
+  unfolding send_of
+  send_refused lent output =
+      leaves-answer (send_checks s lent output) (λ (a : Sent). a.refusal) (refused_send s) _ (λ _. refl)
+      (by_cases (λ (a : Sent). a.refusal ≡ 0) (to_send s.counters) (λ _. refl) (λ _. refl))
 
-  pub reply-refused : (nack : Bool) (k : ℕ) → ((replyOf s nack k).refusal ≡ 0 → ⊥) → replyOf s nack k ≡ refusedSender s (replyOf s nack k).refusal
-  unfolding replyOf
-  reply-refused nack k =
-      leaves-answer (replyChecks s k) (λ (a : Answered). a.refusal) (refusedSender s) _ (λ _. refl) refl
+  pub reply_refused : (nack : Bool) (k : ℕ) → ((reply_of s nack k).refusal ≡ 0 → ⊥) → reply_of s nack k ≡ refused_sender s (reply_of s nack k).refusal
+  unfolding reply_of
+  reply_refused nack k =
+      leaves-answer (reply_checks s k) (λ (a : Answered). a.refusal) (refused_sender s) _ (λ _. refl) refl
 
-  pub damaged-reply-refused : ((damagedReplyOf s).refusal ≡ 0 → ⊥) → damagedReplyOf s ≡ refusedSender s (damagedReplyOf s).refusal
-  unfolding damagedReplyOf
-  damaged-reply-refused =
-      leaves-answer (senderChecks s) (λ (a : Answered). a.refusal) (refusedSender s) _ (λ _. refl) refl
+  pub damaged_reply_refused : ((damaged_reply_of s).refusal ≡ 0 → ⊥) → damaged_reply_of s ≡ refused_sender s (damaged_reply_of s).refusal
+  unfolding damaged_reply_of
+  damaged_reply_refused =
+      leaves-answer (sender_checks s) (λ (a : Answered). a.refusal) (refused_sender s) _ (λ _. refl) refl
 
-  pub tick-refused : ((tickOf s).refusal ≡ 0 → ⊥) → tickOf s ≡ refusedTick s (tickOf s).refusal
-  unfolding tickOf
-  tick-refused =
-      leaves-answer (senderChecks s) (λ (a : Ticked). a.refusal) (refusedTick s) _ (λ _. refl) refl
+  pub tick_refused : ((tick_of s).refusal ≡ 0 → ⊥) → tick_of s ≡ refused_tick s (tick_of s).refusal
+  unfolding tick_of
+  tick_refused =
+      leaves-answer (sender_checks s) (λ (a : Ticked). a.refusal) (refused_tick s) _ (λ _. refl) refl
 
-  pub reset-refused : (t size : ℕ) → ((resetOf s t size).refusal ≡ 0 → ⊥) → resetOf s t size ≡ refusedSender s (resetOf s t size).refusal
-  unfolding resetOf
-  reset-refused t size =
-      leaves-answer (resetChecks s t size) (λ (a : Answered). a.refusal) (refusedSender s) _ (λ _. refl) refl
+  pub reset_refused : (t size : ℕ) → ((reset_of s t size).refusal ≡ 0 → ⊥) → reset_of s t size ≡ refused_sender s (reset_of s t size).refusal
+  unfolding reset_of
+  reset_refused t size =
+      leaves-answer (reset_checks s t size) (λ (a : Answered). a.refusal) (refused_sender s) _ (λ _. refl) refl
 
 module _ (r : Receiver) where
-  pub arrival-refused : (k channel : ℕ) (bad : Bool) (n : ℕ) (room : Bool) (output : ℕ) → ((arrivalOf r k channel bad n room output).refusal ≡ 0 → ⊥)
-      → arrivalOf r k channel bad n room output ≡ refusedArrival r (arrivalOf r k channel bad n room output).refusal
-  unfolding arrivalOf answerTo
-  arrival-refused k channel bad n room output =
-      leaves-answer (arrivalChecks r k channel n room output) (λ (a : Arrived). a.refusal) (refusedArrival r) _ (λ _. refl) (answered r k channel bad n room)
+  pub arrival_refused : (k channel : ℕ) (bad : Bool) (n : ℕ) (room : Bool) (output : ℕ) → ((arrival_of r k channel bad n room output).refusal ≡ 0 → ⊥)
+      → arrival_of r k channel bad n room output ≡ refused_arrival r (arrival_of r k channel bad n room output).refusal
+  unfolding arrival_of answer_to
+  arrival_refused k channel bad n room output =
+      leaves-answer (arrival_checks r k channel n room output) (λ (a : Arrived). a.refusal) (refused_arrival r) _ (λ _. refl) (answered r k channel bad n room)
 
-  pub damaged-arrival-refused : ((damagedArrivalOf r).refusal ≡ 0 → ⊥) → damagedArrivalOf r ≡ refusedArrival r (damagedArrivalOf r).refusal
-  unfolding damagedArrivalOf
-  damaged-arrival-refused =
-      leaves-answer (receiverChecks r) (λ (a : Arrived). a.refusal) (refusedArrival r) _ (λ _. refl) refl
+  pub damaged_arrival_refused : ((damaged_arrival_of r).refusal ≡ 0 → ⊥) → damaged_arrival_of r ≡ refused_arrival r (damaged_arrival_of r).refusal
+  unfolding damaged_arrival_of
+  damaged_arrival_refused =
+      leaves-answer (receiver_checks r) (λ (a : Arrived). a.refusal) (refused_arrival r) _ (λ _. refl) refl
 
 -- a fresh end that is refused is none
-pub fresh-sender-number : (t s : ℕ) → (freshSenderOf t s).refusal ≡ refusalOf (freshChecks t s)
-unfolding freshSenderOf
-fresh-sender-number t s =
-    number_is (freshChecks t s) (λ (a : Answered). a.refusal) (refusedSender noSender) _ (λ _. refl) refl
+pub fresh_sender_number : (t s : ℕ) → (fresh_sender_of t s).refusal ≡ refusal_of (fresh_checks t s)
+unfolding fresh_sender_of
+fresh_sender_number t s =
+    number_is (fresh_checks t s) (λ (a : Answered). a.refusal) (refused_sender no_sender) _ (λ _. refl) refl
 
-pub fresh-sender-refused : (t s : ℕ) → ((freshSenderOf t s).refusal ≡ 0 → ⊥) → freshSenderOf t s ≡ refusedSender noSender (freshSenderOf t s).refusal
-unfolding freshSenderOf
-fresh-sender-refused t s =
-    leaves-answer (freshChecks t s) (λ (a : Answered). a.refusal) (refusedSender noSender) _ (λ _. refl) refl
+pub fresh_sender_refused : (t s : ℕ) → ((fresh_sender_of t s).refusal ≡ 0 → ⊥) → fresh_sender_of t s ≡ refused_sender no_sender (fresh_sender_of t s).refusal
+unfolding fresh_sender_of
+fresh_sender_refused t s =
+    leaves-answer (fresh_checks t s) (λ (a : Answered). a.refusal) (refused_sender no_sender) _ (λ _. refl) refl
 
-pub fresh-receiver-number : (s : ℕ) → (freshReceiverOf s).refusal ≡ refusalOf (sizeChecks s)
-unfolding freshReceiverOf
-fresh-receiver-number s =
-    number_is (sizeChecks s) (λ (a : Begun). a.refusal) (refusedReceiver noReceiver) _ (λ _. refl) refl
+pub fresh_receiver_number : (s : ℕ) → (fresh_receiver_of s).refusal ≡ refusal_of (size_checks s)
+unfolding fresh_receiver_of
+fresh_receiver_number s =
+    number_is (size_checks s) (λ (a : Begun). a.refusal) (refused_receiver no_receiver) _ (λ _. refl) refl
 
-pub fresh-receiver-refused : (s : ℕ) → ((freshReceiverOf s).refusal ≡ 0 → ⊥) → freshReceiverOf s ≡ refusedReceiver noReceiver (freshReceiverOf s).refusal
-unfolding freshReceiverOf
-fresh-receiver-refused s =
-    leaves-answer (sizeChecks s) (λ (a : Begun). a.refusal) (refusedReceiver noReceiver) _ (λ _. refl) refl
+pub fresh_receiver_refused : (s : ℕ) → ((fresh_receiver_of s).refusal ≡ 0 → ⊥) → fresh_receiver_of s ≡ refused_receiver no_receiver (fresh_receiver_of s).refusal
+unfolding fresh_receiver_of
+fresh_receiver_refused s =
+    leaves-answer (size_checks s) (λ (a : Begun). a.refusal) (refused_receiver no_receiver) _ (λ _. refl) refl
 
 -- a refused call leaves what it was lent
 pub offer-leaves :
     (s : Sender) (buffers : List ℕ) (channel : ℕ) (bad : Bool) (bytes : List ℕ)
-    → ((offerOf s (length buffers) channel bad (length bytes)).refusal ≡ 0 → ⊥) → offerBuffers s buffers channel bytes ≡ buffers
-unfolding offerBuffers
+    → ((offer_of s (length buffers) channel bad (length bytes)).refusal ≡ 0 → ⊥) → offer_buffers s buffers channel bytes ≡ buffers
+unfolding offer_buffers
 offer-leaves s buffers channel bad bytes h =
-    hands-back (offerChecks s (length buffers) channel (length bytes)) buffers _
-    (λ e. h (offer-number s (length buffers) channel bad (length bytes) ∙ e))
+    hands_back (offer_checks s (length buffers) channel (length bytes)) buffers _
+    (λ e. h (offer_number s (length buffers) channel bad (length bytes) ∙ e))
 
 pub send-leaves :
-    (s : Sender) (buffers output : List ℕ) → ((sendOf s (length buffers) (length output)).refusal ≡ 0 → ⊥)
-    → sendOutput s buffers output ≡ output
-unfolding sendOutput
+    (s : Sender) (buffers output : List ℕ) → ((send_of s (length buffers) (length output)).refusal ≡ 0 → ⊥)
+    → send_output s buffers output ≡ output
+unfolding send_output
 send-leaves s buffers output h =
-    hands-back (sendChecks s (length buffers) (length output)) output _
-    (λ e. h (send-number s (length buffers) (length output) ∙ e))
+    hands_back (send_checks s (length buffers) (length output)) output _
+    (λ e. h (send_number s (length buffers) (length output) ∙ e))
 
 pub arrival-leaves :
     (r : Receiver) (k channel : ℕ) (bad : Bool) (bytes : List ℕ) (room : Bool) (output : List ℕ)
-    → ((arrivalOf r k channel bad (length bytes) room (length output)).refusal ≡ 0 → ⊥)
-    → arrivalOutput r k channel bytes room output ≡ output
-unfolding arrivalOutput
+    → ((arrival_of r k channel bad (length bytes) room (length output)).refusal ≡ 0 → ⊥)
+    → arrival_output r k channel bytes room output ≡ output
+unfolding arrival_output
 arrival-leaves r k channel bad bytes room output h =
-    hands-back (arrivalChecks r k channel (length bytes) room (length output)) output _
-    (λ e. h (arrival-number r k channel bad (length bytes) room (length output) ∙ e))
+    hands_back (arrival_checks r k channel (length bytes) room (length output)) output _
+    (λ e. h (arrival_number r k channel bad (length bytes) room (length output) ∙ e))

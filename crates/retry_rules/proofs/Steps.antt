@@ -8,19 +8,19 @@ use lib.Dec.{ltb, eqb}
 use borrow.Author.Tests.{ltb-true, ltb-false, eqb-true, eqb-false}
 use Rattle.laws.proofs.Cases.{by_cases}
 use Rattle.retry_rules.specs.declared.Counters.{Counters}
-use Rattle.retry_rules.specs.Numbers.{amongLast}
-use Rattle.retry_rules.specs.Reply.{timerAt, toOldest, restarted, oneReleased, acked, nacked, heard}
+use Rattle.retry_rules.specs.Numbers.{among_last}
+use Rattle.retry_rules.specs.Reply.{timer_at, to_oldest, restarted, one_released, acked, nacked, heard}
 use Rattle.retry_rules.specs.Tick.{expired, fallen, ticked}
 
 module _ (P : Counters → Type 0) (c : Counters) where
   -- nothing outstanding; NACK of the oldest, of another; ACK of the oldest, of one of the last eight released, of another
   pub heard-cases :
       (nack : Bool) (k : ℕ) → (c.outstanding ≡ 0 → P c)
-      → (0 < c.outstanding → nack ≡ true → k ≡ c.oldest → P (toOldest (restarted c)))
-      → (0 < c.outstanding → nack ≡ true → (k ≡ c.oldest → ⊥) → P (toOldest c))
-      → (0 < c.outstanding → nack ≡ false → k ≡ c.oldest → P (restarted (oneReleased c)))
-      → (0 < c.outstanding → nack ≡ false → (k ≡ c.oldest → ⊥) → amongLast c.released c.oldest k ≡ true → P c)
-      → (0 < c.outstanding → nack ≡ false → (k ≡ c.oldest → ⊥) → amongLast c.released c.oldest k ≡ false → P (toOldest c))
+      → (0 < c.outstanding → nack ≡ true → k ≡ c.oldest → P (to_oldest (restarted c)))
+      → (0 < c.outstanding → nack ≡ true → (k ≡ c.oldest → ⊥) → P (to_oldest c))
+      → (0 < c.outstanding → nack ≡ false → k ≡ c.oldest → P (restarted (one_released c)))
+      → (0 < c.outstanding → nack ≡ false → (k ≡ c.oldest → ⊥) → among_last c.released c.oldest k ≡ true → P c)
+      → (0 < c.outstanding → nack ≡ false → (k ≡ c.oldest → ⊥) → among_last c.released c.oldest k ≡ false → P (to_oldest c))
       → P (heard c nack k)
   unfolding heard acked nacked
   heard-cases nack k idle nack-oldest nack-other ack-oldest ack-last ack-other =
@@ -28,17 +28,17 @@ module _ (P : Counters → Type 0) (c : Counters) where
       (λ t.
       let some : 0 < c.outstanding = omega (arith, eqb-false c.outstanding 0 t) in
       by_cases P nack
-      (λ u. by_cases (λ d. P (toOldest d)) (eqb k c.oldest) (λ e. nack-oldest some u (eqb-true k c.oldest e))
+      (λ u. by_cases (λ d. P (to_oldest d)) (eqb k c.oldest) (λ e. nack-oldest some u (eqb-true k c.oldest e))
       (λ e. nack-other some u (eqb-false k c.oldest e)))
       (λ u. by_cases P (eqb k c.oldest) (λ e. ack-oldest some u (eqb-true k c.oldest e))
-      (λ e. by_cases P (amongLast c.released c.oldest k) (ack-last some u (eqb-false k c.oldest e))
+      (λ e. by_cases P (among_last c.released c.oldest k) (ack-last some u (eqb-false k c.oldest e))
       (ack-other some u (eqb-false k c.oldest e)))))
 
   -- nothing outstanding; the timer runs; expiry one or two; the third
   pub ticked-cases :
       (c.outstanding ≡ 0 → P c)
-      → (0 < c.outstanding → (c.timer ≡ 1 → ⊥) → P (timerAt (c.timer - 1) c.expiries c))
-      → (0 < c.outstanding → c.timer ≡ 1 → c.expiries < 2 → P (toOldest (expired c)))
+      → (0 < c.outstanding → (c.timer ≡ 1 → ⊥) → P (timer_at (c.timer - 1) c.expiries c))
+      → (0 < c.outstanding → c.timer ≡ 1 → c.expiries < 2 → P (to_oldest (expired c)))
       → (0 < c.outstanding → c.timer ≡ 1 → 2 ≤ c.expiries → P (fallen (expired c)))
       → P (ticked c)
   unfolding ticked

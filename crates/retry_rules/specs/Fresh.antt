@@ -5,14 +5,14 @@ use Rattle.retry_rules.specs.declared.Sender.{Sender}
 use Rattle.retry_rules.specs.declared.Receiver.{Receiver}
 use Rattle.retry_rules.specs.declared.Answered.{Answered}
 use Rattle.retry_rules.specs.declared.Begun.{Begun}
-use Rattle.retry_rules.specs.Numbers.{timeAllowed}
-use Rattle.segment_size.specs.Sizes.{sizeAllowed}
-use Rattle.retry_rules.specs.States.{senderRule}
-use Rattle.retry_rules.specs.Refused.{refusedSender, refusedReceiver}
+use Rattle.retry_rules.specs.Numbers.{time_allowed}
+use Rattle.segment_size.specs.Sizes.{size_allowed}
+use Rattle.retry_rules.specs.States.{sender_rule}
+use Rattle.retry_rules.specs.Refused.{refused_sender, refused_receiver}
 
 -- nothing stored, the timer at its start; the next segment has number 0
-abbrev pub senderWith : ℕ → ℕ → ℕ → Sender
-senderWith link t s =
+abbrev pub sender_with : ℕ → ℕ → ℕ → Sender
+sender_with link t s =
     record {
       counters = record {
         oldest = 0;
@@ -29,41 +29,41 @@ senderWith link t s =
       slots = record { lengths = replicate 8 0; channels = replicate 8 0; bad = replicate 8 false };
     }
 
-abbrev pub freshSender : ℕ → ℕ → Sender
-freshSender t s = senderWith 1 t s
+abbrev pub fresh_sender : ℕ → ℕ → Sender
+fresh_sender t s = sender_with 1 t s
 
-abbrev pub freshReceiver : ℕ → Receiver
-freshReceiver s = record { expected = 0; received = 0; size = s }
+abbrev pub fresh_receiver : ℕ → Receiver
+fresh_receiver s = record { expected = 0; received = 0; size = s }
 
 -- all zeros: what stands where no sender or receiver was made. Both break their rules
-abbrev pub noSender : Sender
-noSender = senderWith 0 0 0
+abbrev pub no_sender : Sender
+no_sender = sender_with 0 0 0
 
-abbrev pub noReceiver : Receiver
-noReceiver = freshReceiver 0
+abbrev pub no_receiver : Receiver
+no_receiver = fresh_receiver 0
 
 -- T from 1 to 65,535, and S allowed
-unfoldable pub freshChecks : ℕ → ℕ → List Check
-freshChecks t s = check 1 (not (timeAllowed t)) ∷ check 2 (not (sizeAllowed s)) ∷ []
+unfoldable pub fresh_checks : ℕ → ℕ → List Check
+fresh_checks t s = check 1 (not (time_allowed t)) ∷ check 2 (not (size_allowed s)) ∷ []
 
 -- a fresh sender with the T and S that are given; refused, there is none
-unfoldable pub freshSenderOf : ℕ → ℕ → Answered
-freshSenderOf t s =
-    outcome (freshChecks t s) (refusedSender noSender) (record { refusal = 0; sender = freshSender t s })
+unfoldable pub fresh_sender_of : ℕ → ℕ → Answered
+fresh_sender_of t s =
+    outcome (fresh_checks t s) (refused_sender no_sender) (record { refusal = 0; sender = fresh_sender t s })
 
-unfoldable pub sizeChecks : ℕ → List Check
-sizeChecks s = check 2 (not (sizeAllowed s)) ∷ []
+unfoldable pub size_checks : ℕ → List Check
+size_checks s = check 2 (not (size_allowed s)) ∷ []
 
 -- a fresh receiver with the S that is given; refused, there is none
-unfoldable pub freshReceiverOf : ℕ → Begun
-freshReceiverOf s =
-    outcome (sizeChecks s) (refusedReceiver noReceiver) (record { refusal = 0; receiver = freshReceiver s })
+unfoldable pub fresh_receiver_of : ℕ → Begun
+fresh_receiver_of s =
+    outcome (size_checks s) (refused_receiver no_receiver) (record { refusal = 0; receiver = fresh_receiver s })
 
 -- a reset is not refused for a link that is down
-unfoldable pub resetChecks : Sender → ℕ → ℕ → List Check
-resetChecks given t s = check 1 (not (senderRule given)) ∷ freshChecks t s
+unfoldable pub reset_checks : Sender → ℕ → ℕ → List Check
+reset_checks given t s = check 1 (not (sender_rule given)) ∷ fresh_checks t s
 
 -- a fresh sender with the T and S that are given; refused, the one that was given, with all that is stored
-unfoldable pub resetOf : Sender → ℕ → ℕ → Answered
-resetOf given t s =
-    outcome (resetChecks given t s) (refusedSender given) (record { refusal = 0; sender = freshSender t s })
+unfoldable pub reset_of : Sender → ℕ → ℕ → Answered
+reset_of given t s =
+    outcome (reset_checks given t s) (refused_sender given) (record { refusal = 0; sender = fresh_sender t s })

@@ -5,7 +5,7 @@ use Rattle.retry_rules.specs.Calls.{
   offer,
   send,
   reply,
-  damaged-reply,
+  damaged_reply,
   tick,
   reset,
   Told,
@@ -29,15 +29,15 @@ abbrev pub blank : ℕ → ℕ → Ledger
 blank t s = record { columns = t; size = s; accepted = 0; out = 0; released = 0; ticks = 0; expiries = 0 }
 
 -- something that went out is not released
-abbrev pub waitsForReply : Ledger → Bool
-waitsForReply l = ltb l.released l.out
+abbrev pub waits_for_reply : Ledger → Bool
+waits_for_reply l = ltb l.released l.out
 
 -- the number of the oldest segment
-abbrev pub oldestNumber : Ledger → ℕ
-oldestNumber l = l.released % 16
+abbrev pub oldest_number : Ledger → ℕ
+oldest_number l = l.released % 16
 
-abbrev pub oneAccepted : Ledger → Ledger
-oneAccepted l =
+abbrev pub one_accepted : Ledger → Ledger
+one_accepted l =
     record {
       columns = l.columns;
       size = l.size;
@@ -48,8 +48,8 @@ oneAccepted l =
       expiries = l.expiries;
     }
 
-abbrev pub oneOut : Ledger → Ledger
-oneOut l =
+abbrev pub one_out : Ledger → Ledger
+one_out l =
     record {
       columns = l.columns;
       size = l.size;
@@ -75,16 +75,16 @@ timed ticks expiries gone l =
 
 -- what is written down of a call that is not refused
 abbrev pub entry : Ledger → SenderCall → Told → Ledger
-entry l (offer lent channel bad n) told = oneAccepted l
+entry l (offer lent channel bad n) told = one_accepted l
 -- a segment that went out has gone out for the first time if its number is the next
-entry l (send lent output) told = cond (told.sent && eqb told.number (l.out % 16)) (oneOut l) l
+entry l (send lent output) told = cond (told.sent && eqb told.number (l.out % 16)) (one_out l) l
 -- ACK or NACK of the oldest's number restarts the timer and clears the count; the ACK releases
 entry l (reply nack k) told =
-    cond (waitsForReply l && eqb k (oldestNumber l)) (timed 0 0 (cond nack 0 1) l) l
-entry l damaged-reply told = l
+    cond (waits_for_reply l && eqb k (oldest_number l)) (timed 0 0 (cond nack 0 1) l) l
+entry l damaged_reply told = l
 -- the T-th tick is an expiry
 entry l tick told =
-    cond (waitsForReply l)
+    cond (waits_for_reply l)
     (cond (eqb (l.ticks + 1) l.columns) (timed 0 (l.expiries + 1) 0 l) (timed (l.ticks + 1) l.expiries 0 l)) l
 entry l (reset t s) told = blank t s
 
@@ -94,20 +94,20 @@ entered l c told = cond (eqb told.refusal 0) (entry l c told) l
 
 module _ (I : SenderEnd) where
   -- where a sender stands after a list of calls, and what is then written down
-  unfoldable pub senderAfter : I.State → List SenderCall → I.State
-  senderAfter s [] = s
-  senderAfter s (c ∷ cs) = senderAfter (I.call s c) cs
+  unfoldable pub sender_after : I.State → List SenderCall → I.State
+  sender_after s [] = s
+  sender_after s (c ∷ cs) = sender_after (I.call s c) cs
 
-  unfoldable pub ledgerAfter : I.State → Ledger → List SenderCall → Ledger
-  ledgerAfter s l [] = l
-  ledgerAfter s l (c ∷ cs) = ledgerAfter (I.call s c) (entered l c (I.tells s c)) cs
+  unfoldable pub ledger_after : I.State → Ledger → List SenderCall → Ledger
+  ledger_after s l [] = l
+  ledger_after s l (c ∷ cs) = ledger_after (I.call s c) (entered l c (I.tells s c)) cs
 
 module _ (I : ReceiverEnd) where
   -- where a receiver stands after a list of arrivals, and how many segments it has delivered, e before them
-  unfoldable pub receiverAfter : I.State → List ReceiverCall → I.State
-  receiverAfter r [] = r
-  receiverAfter r (c ∷ cs) = receiverAfter (I.call r c) cs
+  unfoldable pub receiver_after : I.State → List ReceiverCall → I.State
+  receiver_after r [] = r
+  receiver_after r (c ∷ cs) = receiver_after (I.call r c) cs
 
-  unfoldable pub deliveredAfter : I.State → ℕ → List ReceiverCall → ℕ
-  deliveredAfter r e [] = e
-  deliveredAfter r e (c ∷ cs) = deliveredAfter (I.call r c) (cond (I.tells r c).delivered (e + 1) e) cs
+  unfoldable pub delivered_after : I.State → ℕ → List ReceiverCall → ℕ
+  delivered_after r e [] = e
+  delivered_after r e (c ∷ cs) = delivered_after (I.call r c) (cond (I.tells r c).delivered (e + 1) e) cs

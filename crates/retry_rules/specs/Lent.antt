@@ -7,15 +7,15 @@ unfoldable pub laid : List ℕ → ℕ → List ℕ → List ℕ
 laid old at bytes = take at old ++ (bytes ++ drop (at + length bytes) old)
 
 -- where buffer i begins in the lent run
-abbrev pub bufferAt : Sender → ℕ → ℕ
-bufferAt s i = i * s.counters.size
+abbrev pub buffer_at : Sender → ℕ → ℕ
+buffer_at s i = i * s.counters.size
 
 -- how long what buffer i holds is, and its bytes
-abbrev pub heldLength : Sender → ℕ → ℕ
-heldLength s i = get_or s.slots.lengths i 0
+abbrev pub held_length : Sender → ℕ → ℕ
+held_length s i = get_or s.slots.lengths i 0
 
-unfoldable pub heldBytes : Sender → List ℕ → ℕ → List ℕ
-heldBytes s buffers i = take (heldLength s i) (drop (bufferAt s i) buffers)
+unfoldable pub held_bytes : Sender → List ℕ → ℕ → List ℕ
+held_bytes s buffers i = take (held_length s i) (drop (buffer_at s i) buffers)
 
 -- a segment's content is its channel, its bad mark and its bytes
 pub record Content : Type 0 where
@@ -24,10 +24,10 @@ pub record Content : Type 0 where
   pub bytes : List ℕ
 
 -- what buffer i holds
-unfoldable pub heldContent : Sender → List ℕ → ℕ → Content
-heldContent s buffers i =
+unfoldable pub held_content : Sender → List ℕ → ℕ → Content
+held_content s buffers i =
     record {
       channel = get_or s.slots.channels i 0;
       bad = get_or s.slots.bad i false;
-      bytes = heldBytes s buffers i;
+      bytes = held_bytes s buffers i;
     }

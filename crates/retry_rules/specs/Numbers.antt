@@ -2,8 +2,8 @@
 use Rattle.std.specs.Prelude.{ℕ, zero, suc, ◌+◌, ◌-◌, ◌%◌, min, Bool, true, cond, ◌&&◌, ltb, leb, eqb}
 
 -- T columns, 1 to 65,535
-abbrev pub timeAllowed : ℕ → Bool
-timeAllowed t = ltb 0 t && leb t 65535
+abbrev pub time_allowed : ℕ → Bool
+time_allowed t = ltb 0 t && leb t 65535
 
 -- the number i segments after n
 abbrev pub after : ℕ → ℕ → ℕ
@@ -14,18 +14,18 @@ abbrev pub between : ℕ → ℕ → ℕ
 between k n = (n + 15 - k) % 16
 
 -- k is one of the last so many numbers before n: it is the count of those that really were that judges, not the remainder alone
-unfoldable pub amongLast : ℕ → ℕ → ℕ → Bool
-amongLast count n k = ltb (between k n) count
+unfoldable pub among_last : ℕ → ℕ → ℕ → Bool
+among_last count n k = ltb (between k n) count
 
 -- one more of the last eight
-abbrev pub oneMore : ℕ → ℕ
-oneMore count = min (count + 1) 8
+abbrev pub one_more : ℕ → ℕ
+one_more count = min (count + 1) 8
 
 -- the rule of a number and the count of the last eight before it: from fresh, with fewer than eight the number is the count
-unfoldable pub countRule : ℕ → ℕ → Bool
-countRule n count = cond (ltb count 8) (eqb n count) (eqb count 8 && ltb n 16)
+unfoldable pub count_rule : ℕ → ℕ → Bool
+count_rule n count = cond (ltb count 8) (eqb n count) (eqb count 8 && ltb n 16)
 
 -- a test passes at each number below n
-abbrev pub everyBelow : ℕ → (ℕ → Bool) → Bool
-everyBelow zero f = true
-everyBelow (suc n) f = everyBelow n f && f n
+abbrev pub every_below : ℕ → (ℕ → Bool) → Bool
+every_below zero f = true
+every_below (suc n) f = every_below n f && f n

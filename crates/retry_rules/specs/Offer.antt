@@ -6,25 +6,25 @@ use Rattle.retry_rules.specs.declared.Counters.{Counters}
 use Rattle.retry_rules.specs.declared.Sender.{Sender}
 use Rattle.retry_rules.specs.declared.Offered.{Offered}
 use Rattle.retry_rules.specs.Numbers.{after}
-use Rattle.retry_rules.specs.States.{isDown, senderRule, buffersRule, slot_of}
-use Rattle.retry_rules.specs.Refused.{refusedOffer}
-use Rattle.retry_rules.specs.Lent.{laid, bufferAt}
+use Rattle.retry_rules.specs.States.{is_down, sender_rule, buffers_rule, slot_of}
+use Rattle.retry_rules.specs.Refused.{refused_offer}
+use Rattle.retry_rules.specs.Lent.{laid, buffer_at}
 
-unfoldable pub offerChecks : Sender → ℕ → ℕ → ℕ → List Check
-offerChecks s lent channel n =
-    check 7 (isDown s.counters) ∷ check 1 (not (senderRule s)) ∷ check 1 (not (buffersRule s lent)) ∷ check 1 (not (ltb channel 16))
+unfoldable pub offer_checks : Sender → ℕ → ℕ → ℕ → List Check
+offer_checks s lent channel n =
+    check 7 (is_down s.counters) ∷ check 1 (not (sender_rule s)) ∷ check 1 (not (buffers_rule s lent)) ∷ check 1 (not (ltb channel 16))
     ∷ check 2 (ltb s.counters.size n) ∷ check 4 (eqb n 0) ∷ check 5 (eqb s.counters.stored 8) ∷ []
 
 -- the buffer and the number that the next segment gets
-abbrev pub freeSlot : Counters → ℕ
-freeSlot c = slot_of c c.stored
+abbrev pub free_slot : Counters → ℕ
+free_slot c = slot_of c c.stored
 
-abbrev pub nextNumber : Counters → ℕ
-nextNumber c = after c.oldest c.stored
+abbrev pub next_number : Counters → ℕ
+next_number c = after c.oldest c.stored
 
 -- one more is stored, and waits
-abbrev pub oneStored : Counters → Counters
-oneStored c =
+abbrev pub one_stored : Counters → Counters
+one_stored c =
     record {
       oldest = c.oldest;
       stored = c.stored + 1;
@@ -38,25 +38,25 @@ oneStored c =
       link = c.link;
     }
 
-abbrev pub storedIn : Sender → ℕ → Bool → ℕ → Sender
-storedIn s channel bad n =
+abbrev pub stored_in : Sender → ℕ → Bool → ℕ → Sender
+stored_in s channel bad n =
     record {
-      counters = oneStored s.counters;
+      counters = one_stored s.counters;
       slots = record {
-        lengths = set s.slots.lengths (freeSlot s.counters) n;
-        channels = set s.slots.channels (freeSlot s.counters) channel;
-        bad = set s.slots.bad (freeSlot s.counters) bad;
+        lengths = set s.slots.lengths (free_slot s.counters) n;
+        channels = set s.slots.channels (free_slot s.counters) channel;
+        bad = set s.slots.bad (free_slot s.counters) bad;
       };
     }
 
 -- what an offer answers
-unfoldable pub offerOf : Sender → ℕ → ℕ → Bool → ℕ → Offered
-offerOf s lent channel bad n =
-    outcome (offerChecks s lent channel n) (refusedOffer s)
-    (record { refusal = 0; number = nextNumber s.counters; sender = storedIn s channel bad n })
+unfoldable pub offer_of : Sender → ℕ → ℕ → Bool → ℕ → Offered
+offer_of s lent channel bad n =
+    outcome (offer_checks s lent channel n) (refused_offer s)
+    (record { refusal = 0; number = next_number s.counters; sender = stored_in s channel bad n })
 
 -- what the eight buffers hold after it
-unfoldable pub offerBuffers : Sender → List ℕ → ℕ → List ℕ → List ℕ
-offerBuffers s buffers channel bytes =
-    left (offerChecks s (length buffers) channel (length bytes)) buffers
-    (laid buffers (bufferAt s (freeSlot s.counters)) bytes)
+unfoldable pub offer_buffers : Sender → List ℕ → ℕ → List ℕ → List ℕ
+offer_buffers s buffers channel bytes =
+    left (offer_checks s (length buffers) channel (length bytes)) buffers
+    (laid buffers (buffer_at s (free_slot s.counters)) bytes)

@@ -10,25 +10,25 @@ use Rattle.retry_rules.specs.declared.Begun.{Begun}
 use Rattle.retry_rules.specs.declared.Arrived.{Arrived}
 
 -- a fresh sender, a reply, a damaged reply, a reset
-abbrev pub refusedSender : Sender → ℕ → Answered
-refusedSender s n = record { refusal = n; sender = s }
+abbrev pub refused_sender : Sender → ℕ → Answered
+refused_sender s n = record { refusal = n; sender = s }
 
-abbrev pub refusedOffer : Sender → ℕ → Offered
-refusedOffer s n = record { refusal = n; number = 0; sender = s }
+abbrev pub refused_offer : Sender → ℕ → Offered
+refused_offer s n = record { refusal = n; number = 0; sender = s }
 
-abbrev pub refusedSend : Sender → ℕ → Sent
-refusedSend s n = record { refusal = n; sent = false; number = 0; channel = 0; bad = false; length = 0; sender = s }
+abbrev pub refused_send : Sender → ℕ → Sent
+refused_send s n = record { refusal = n; sent = false; number = 0; channel = 0; bad = false; length = 0; sender = s }
 
-abbrev pub refusedTick : Sender → ℕ → Ticked
-refusedTick s n = record { refusal = n; fell = false; sender = s }
+abbrev pub refused_tick : Sender → ℕ → Ticked
+refused_tick s n = record { refusal = n; fell = false; sender = s }
 
 -- a fresh receiver
-abbrev pub refusedReceiver : Receiver → ℕ → Begun
-refusedReceiver r n = record { refusal = n; receiver = r }
+abbrev pub refused_receiver : Receiver → ℕ → Begun
+refused_receiver r n = record { refusal = n; receiver = r }
 
 -- an arrival, valid or damaged
-abbrev pub refusedArrival : Receiver → ℕ → Arrived
-refusedArrival r n =
+abbrev pub refused_arrival : Receiver → ℕ → Arrived
+refused_arrival r n =
     record {
       refusal = n;
       delivered = false;

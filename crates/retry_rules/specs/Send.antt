@@ -6,29 +6,29 @@ use Rattle.retry_rules.specs.declared.Counters.{Counters}
 use Rattle.retry_rules.specs.declared.Sender.{Sender}
 use Rattle.retry_rules.specs.declared.Sent.{Sent}
 use Rattle.retry_rules.specs.Numbers.{after}
-use Rattle.retry_rules.specs.States.{isDown, senderRule, buffersRule, slot_of}
-use Rattle.retry_rules.specs.Refused.{refusedSend}
-use Rattle.retry_rules.specs.Lent.{laid, heldLength, heldBytes}
+use Rattle.retry_rules.specs.States.{is_down, sender_rule, buffers_rule, slot_of}
+use Rattle.retry_rules.specs.Refused.{refused_send}
+use Rattle.retry_rules.specs.Lent.{laid, held_length, held_bytes}
 
 -- the send point is not past the last stored segment
-abbrev pub toSend : Counters → Bool
-toSend c = ltb c.point c.stored
+abbrev pub to_send : Counters → Bool
+to_send c = ltb c.point c.stored
 
 -- the buffer and the number at the send point
-abbrev pub dueSlot : Counters → ℕ
-dueSlot c = slot_of c c.point
+abbrev pub due_slot : Counters → ℕ
+due_slot c = slot_of c c.point
 
-abbrev pub sendPoint : Counters → ℕ
-sendPoint c = after c.oldest c.point
+abbrev pub send_point : Counters → ℕ
+send_point c = after c.oldest c.point
 
-unfoldable pub sendChecks : Sender → ℕ → ℕ → List Check
-sendChecks s lent output =
-    check 7 (isDown s.counters) ∷ check 1 (not (senderRule s)) ∷ check 1 (not (buffersRule s lent))
-    ∷ check 6 (toSend s.counters && ltb output (heldLength s (dueSlot s.counters))) ∷ []
+unfoldable pub send_checks : Sender → ℕ → ℕ → List Check
+send_checks s lent output =
+    check 7 (is_down s.counters) ∷ check 1 (not (sender_rule s)) ∷ check 1 (not (buffers_rule s lent))
+    ∷ check 6 (to_send s.counters && ltb output (held_length s (due_slot s.counters))) ∷ []
 
 -- the send point moves on; a segment sent for the first time waits no longer
-abbrev pub oneSent : Counters → Counters
-oneSent c =
+abbrev pub one_sent : Counters → Counters
+one_sent c =
     record {
       oldest = c.oldest;
       stored = c.stored;
@@ -43,28 +43,28 @@ oneSent c =
     }
 
 -- nothing to send: no refusal, and the same sender
-abbrev pub nothingSent : Sender → Sent
-nothingSent s = refusedSend s 0
+abbrev pub nothing_sent : Sender → Sent
+nothing_sent s = refused_send s 0
 
-abbrev pub dueSent : Sender → Sent
-dueSent s =
+abbrev pub due_sent : Sender → Sent
+due_sent s =
     record {
       refusal = 0;
       sent = true;
-      number = sendPoint s.counters;
-      channel = get_or s.slots.channels (dueSlot s.counters) 0;
-      bad = get_or s.slots.bad (dueSlot s.counters) false;
-      length = heldLength s (dueSlot s.counters);
-      sender = record { counters = oneSent s.counters; slots = s.slots };
+      number = send_point s.counters;
+      channel = get_or s.slots.channels (due_slot s.counters) 0;
+      bad = get_or s.slots.bad (due_slot s.counters) false;
+      length = held_length s (due_slot s.counters);
+      sender = record { counters = one_sent s.counters; slots = s.slots };
     }
 
 -- what a send answers
-unfoldable pub sendOf : Sender → ℕ → ℕ → Sent
-sendOf s lent output =
-    outcome (sendChecks s lent output) (refusedSend s) (cond (toSend s.counters) (dueSent s) (nothingSent s))
+unfoldable pub send_of : Sender → ℕ → ℕ → Sent
+send_of s lent output =
+    outcome (send_checks s lent output) (refused_send s) (cond (to_send s.counters) (due_sent s) (nothing_sent s))
 
 -- what the output holds after it
-unfoldable pub sendOutput : Sender → List ℕ → List ℕ → List ℕ
-sendOutput s buffers output =
-    left (sendChecks s (length buffers) (length output)) output
-    (cond (toSend s.counters) (laid output 0 (heldBytes s buffers (dueSlot s.counters))) output)
+unfoldable pub send_output : Sender → List ℕ → List ℕ → List ℕ
+send_output s buffers output =
+    left (send_checks s (length buffers) (length output)) output
+    (cond (to_send s.counters) (laid output 0 (held_bytes s buffers (due_slot s.counters))) output)

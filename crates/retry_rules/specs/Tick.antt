@@ -4,13 +4,13 @@ use Rattle.refusal.specs.Order.{outcome}
 use Rattle.retry_rules.specs.declared.Counters.{Counters}
 use Rattle.retry_rules.specs.declared.Sender.{Sender}
 use Rattle.retry_rules.specs.declared.Ticked.{Ticked}
-use Rattle.retry_rules.specs.States.{isDown}
-use Rattle.retry_rules.specs.Refused.{refusedTick}
-use Rattle.retry_rules.specs.Reply.{timerAt, toOldest, senderChecks, withCounters}
+use Rattle.retry_rules.specs.States.{is_down}
+use Rattle.retry_rules.specs.Refused.{refused_tick}
+use Rattle.retry_rules.specs.Reply.{timer_at, to_oldest, sender_checks, with_counters}
 
 -- an expiry is counted and the timer is at its start
 abbrev pub expired : Counters → Counters
-expired c = timerAt c.columns (c.expiries + 1) c
+expired c = timer_at c.columns (c.expiries + 1) c
 
 -- the link goes down; nothing is sent, and the send point stays
 abbrev pub fallen : Counters → Counters
@@ -33,11 +33,11 @@ unfoldable pub ticked : Counters → Counters
 ticked c =
     cond (eqb c.outstanding 0) c
     (cond (eqb c.timer 1)
-    (cond (ltb c.expiries 2) (toOldest (expired c)) (fallen (expired c)))
-    (timerAt (c.timer - 1) c.expiries c))
+    (cond (ltb c.expiries 2) (to_oldest (expired c)) (fallen (expired c)))
+    (timer_at (c.timer - 1) c.expiries c))
 
 -- what a tick answers; the call that takes the link down says so and is not itself refused
-unfoldable pub tickOf : Sender → Ticked
-tickOf s =
-    outcome (senderChecks s) (refusedTick s)
-    (record { refusal = 0; fell = isDown (ticked s.counters); sender = withCounters s (ticked s.counters) })
+unfoldable pub tick_of : Sender → Ticked
+tick_of s =
+    outcome (sender_checks s) (refused_tick s)
+    (record { refusal = 0; fell = is_down (ticked s.counters); sender = with_counters s (ticked s.counters) })

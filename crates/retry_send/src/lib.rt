@@ -1,9 +1,9 @@
 // A send: the segment at the send point is taken out of the sender's eight buffers, one lent run of 8 times S bytes.
 ghost use Rattle.std.specs.Prelude.{◌≡◌, ◌<◌, max, length};
-ghost use Rattle.refusal.specs.Order.{refusalOf};
-ghost use Rattle.retry_rules.specs.Refused.{refusedSend};
-ghost use Rattle.retry_rules.specs.Lent.{heldLength};
-ghost use Rattle.retry_rules.specs.Send.{sendChecks, oneSent, dueSent, sendOf, sendOutput};
+ghost use Rattle.refusal.specs.Order.{refusal_of};
+ghost use Rattle.retry_rules.specs.Refused.{refused_send};
+ghost use Rattle.retry_rules.specs.Lent.{held_length};
+ghost use Rattle.retry_rules.specs.Send.{send_checks, one_sent, due_sent, send_of, send_output};
 
 use refusal;
 use retry_parts::lent::lay;
@@ -15,7 +15,7 @@ use retry_state::sender_is_ruled;
 // How long what a buffer holds is.
 fn held_length(sender: Sender, slot: usize) -> u16
     requires { slot < 8 }
-    ensures { result ≡ heldLength sender slot }
+    ensures { result ≡ held_length sender slot }
 {
     let slots = sender.slots;
     let lengths = slots.lengths;
@@ -24,7 +24,7 @@ fn held_length(sender: Sender, slot: usize) -> u16
 
 // The number that a send is refused with; 0 is none.
 fn send_refusal(sender: Sender, lent: usize, output: usize) -> u8
-    ensures { result ≡ refusalOf (sendChecks sender lent output) }
+    ensures { result ≡ refusal_of (send_checks sender lent output) }
 {
     let c = sender.counters;
     if c.link == DOWN {
@@ -47,7 +47,7 @@ fn send_refusal(sender: Sender, lent: usize, output: usize) -> u8
 
 // Nothing is sent: by a refusal, or, with 0, since the send point is past the last stored segment.
 fn unsent(sender: Sender, refusal: u8) -> Sent
-    ensures { result ≡ refusedSend sender refusal }
+    ensures { result ≡ refused_send sender refusal }
 {
     Sent {
         refusal,
@@ -69,7 +69,7 @@ fn larger(a: u8, b: u8) -> u8
 // The send point moves on; a segment sent for the first time waits no longer. The timer goes on as it was.
 fn one_sent(c: Counters) -> Counters
     requires { c.point < 8 }
-    ensures { result ≡ oneSent c }
+    ensures { result ≡ one_sent c }
 {
     let point = c.point + 1;
     Counters {
@@ -89,7 +89,7 @@ fn one_sent(c: Counters) -> Counters
 // The segment at the send point goes out.
 fn due_sent(sender: Sender) -> Sent
     requires { sender.counters.point < 8 }
-    ensures { result ≡ dueSent sender }
+    ensures { result ≡ due_sent sender }
 {
     let c = sender.counters;
     let due = slot_of(c, c.point);
@@ -113,8 +113,8 @@ fn due_sent(sender: Sender) -> Sent
 
 // A send: the segment at the send point goes out, its bytes into `output`, and the send point moves on.
 pub fn send(sender: Sender, buffers: &[u8], output: &mut [u8]) -> Sent
-    ensures { (result ≡ sendOf sender (length buffers.now) (length output.old))
-        × (output.new ≡ sendOutput sender buffers.now output.old) }
+    ensures { (result ≡ send_of sender (length buffers.now) (length output.old))
+        × (output.new ≡ send_output sender buffers.now output.old) }
 {
     let refusal = send_refusal(sender, buffers.len(), output.len());
     if refusal != 0 {

@@ -5,18 +5,18 @@ use Prim.Native.Nat.{ℕ, ◌+◌, ◌*◌, ◌≤◌, ◌<◌}
 use native.Mathlib.Omega.{arith}
 use Rattle.retry_rules.specs.declared.Counters.{Counters}
 use Rattle.retry_rules.specs.States.{slot_of}
-use Rattle.retry_rules.proofs.Laid.{buffers-apart}
+use Rattle.retry_rules.proofs.Laid.{buffers_apart}
 
 module _ (c : Counters) (i : ℕ) where
-  slot-below : slot_of c i < 8
-  slot-below = omega arith
+  slot_below : slot_of c i < 8
+  slot_below = omega arith
 
-  buffer-within : slot_of c i * c.size + c.size ≤ 8 * c.size
-  buffer-within = buffers-apart c.size (slot_of c i) 8 slot-below
+  buffer_within : slot_of c i * c.size + c.size ≤ 8 * c.size
+  buffer_within = buffers_apart c.size (slot_of c i) 8 slot_below
 
   -- what is said to be the buffer, and its beginning
   pub below : (r : ℕ) → r ≡ slot_of c i → r < 8
-  below r e = rw e slot-below
+  below r e = rw e slot_below
 
   pub within : (r : ℕ) → r ≡ slot_of c i * c.size → r + c.size ≤ 8 * c.size
-  within r e = rw e buffer-within
+  within r e = rw e buffer_within

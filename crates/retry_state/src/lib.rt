@@ -1,8 +1,8 @@
 // The written rule of a sender, and what every call but reset is refused with for its state alone.
 ghost use Rattle.std.specs.Prelude.{◌≡◌, ◌&&◌, ◌||◌, ltb, leb, eqb};
-ghost use Rattle.refusal.specs.Order.{refusalOf};
-ghost use Rattle.retry_rules.specs.States.{linkRule, timerRule, windowRule, countersRule, slotsRule, senderRule};
-ghost use Rattle.retry_rules.specs.Reply.{senderChecks};
+ghost use Rattle.refusal.specs.Order.{refusal_of};
+ghost use Rattle.retry_rules.specs.States.{link_rule, timer_rule, window_rule, counters_rule, slots_rule, sender_rule};
+ghost use Rattle.retry_rules.specs.Reply.{sender_checks};
 
 use refusal;
 use retry_parts::numbers::{count_is_ruled, time_is_allowed};
@@ -39,7 +39,7 @@ fn down_is_ruled(c: Counters) -> bool
 }
 
 fn link_is_ruled(c: Counters) -> bool
-    ensures { result ≡ linkRule c }
+    ensures { result ≡ link_rule c }
 {
     if c.link == UP {
         return up_is_ruled(c);
@@ -52,7 +52,7 @@ fn link_is_ruled(c: Counters) -> bool
 
 // The timer runs from T down.
 fn timer_is_ruled(c: Counters) -> bool
-    ensures { result ≡ timerRule c }
+    ensures { result ≡ timer_rule c }
 {
     if !time_is_allowed(c.columns as u32) {
         return false;
@@ -68,7 +68,7 @@ fn timer_is_ruled(c: Counters) -> bool
 
 // At most eight stored; what is outstanding is stored; the send point is not past the first that waits.
 fn window_is_ruled(c: Counters) -> bool
-    ensures { result ≡ windowRule c }
+    ensures { result ≡ window_rule c }
 {
     if 8 < c.stored {
         return false;
@@ -80,7 +80,7 @@ fn window_is_ruled(c: Counters) -> bool
 }
 
 fn counters_are_ruled(c: Counters) -> bool
-    ensures { result ≡ countersRule c }
+    ensures { result ≡ counters_rule c }
 {
     if !size_is_allowed(c.size as u32) {
         return false;
@@ -109,7 +109,7 @@ fn slot_is_ruled(size: u16, length: u16, channel: u8) -> bool
 
 // The slots of the stored segments; what the others hold does not matter.
 fn slots_are_ruled(sender: Sender) -> bool
-    ensures { result ≡ slotsRule sender }
+    ensures { result ≡ slots_rule sender }
 {
     let c = sender.counters;
     let slots = sender.slots;
@@ -130,7 +130,7 @@ fn slots_are_ruled(sender: Sender) -> bool
 
 // The written rule of a sender.
 pub fn sender_is_ruled(sender: Sender) -> bool
-    ensures { result ≡ senderRule sender }
+    ensures { result ≡ sender_rule sender }
 {
     if !counters_are_ruled(sender.counters) {
         return false;
@@ -140,7 +140,7 @@ pub fn sender_is_ruled(sender: Sender) -> bool
 
 // The number that a call that takes the sender alone is refused with; 0 is none.
 pub fn sender_refusal(sender: Sender) -> u8
-    ensures { result ≡ refusalOf (senderChecks sender) }
+    ensures { result ≡ refusal_of (sender_checks sender) }
 {
     let c = sender.counters;
     if c.link == DOWN {

@@ -1,6 +1,6 @@
 // The sender's timer: one call of tick is one column.
 ghost use Rattle.std.specs.Prelude.{◌≡◌, ◌<◌};
-ghost use Rattle.retry_rules.specs.Tick.{expired, fallen, ticked, tickOf};
+ghost use Rattle.retry_rules.specs.Tick.{expired, fallen, ticked, tick_of};
 
 use retry_rules::{Counters, DOWN, Sender, Ticked};
 use retry_state::sender_refusal;
@@ -48,7 +48,7 @@ fn ticked(c: Counters) -> Counters
 
 // One column. `fell`: this call took the link down, and is not itself refused.
 pub fn tick(sender: Sender) -> Ticked
-    ensures { result ≡ tickOf sender }
+    ensures { result ≡ tick_of sender }
 {
     let refusal = sender_refusal(sender);
     if refusal != 0 {

@@ -1,10 +1,10 @@
 // The bulk reader: a run of characters looked up in a table that is taken once.
 ghost use Rattle.std.specs.Prelude.{◌≡◌, ◌++◌, ◌<◌, ◌≤◌, T, eqb, length, drop};
 ghost use Rattle.laws.specs.Lists.{all_of};
-ghost use Rattle.character_rules.specs.Disparity.{isPlus, disparityOf};
-ghost use Rattle.character_rules.specs.Answers.{runSays};
+ghost use Rattle.character_rules.specs.Disparity.{is_plus, disparity_of};
+ghost use Rattle.character_rules.specs.Answers.{run_says};
 ghost use Rattle.character_rules.specs.Reading.{reading};
-ghost use Rattle.character_rules.specs.Results.{packed, mark, in_range, runResults, runClosing, runReading, runOutput};
+ghost use Rattle.character_rules.specs.Results.{packed, mark, in_range, run_results, run_closing, run_reading, run_output};
 ghost use Rattle.run_table.specs.Table.{table as halves};
 
 use character_rules::RunRead;
@@ -33,7 +33,7 @@ fn number_of(plus: bool) -> u32
 // The look-up of a run, in the table with whole results, so that it needs no branch.
 fn half_of(entries: &[u32; 1024], character: usize, p: u32) -> u32
     requires { (entries.now ≡ halves) × (character < 1024) × (p < 2) }
-    ensures { (result ≡ packed (reading character (disparityOf (eqb p 1)))) × (result < 4096) }
+    ensures { (result ≡ packed (reading character (disparity_of (eqb p 1)))) × (result < 4096) }
 {
     let entry = entries[character];
     (entry >> (p * 16)) % 65536
@@ -42,8 +42,8 @@ fn half_of(entries: &[u32; 1024], character: usize, p: u32) -> u32
 // The run, with the table taken once: the results into the output, and whether the disparity after it is +1.
 fn read_each(characters: &[u16], plus: bool, results: &mut [u16]) -> bool
     requires { T (all_of in_range characters.now) × (length characters.now ≤ length results.old) }
-    ensures { (result ≡ isPlus (runClosing characters.now (disparityOf plus)))
-        × (results.new ≡ runResults characters.now (disparityOf plus) ++ drop (length characters.now) results.old) }
+    ensures { (result ≡ is_plus (run_closing characters.now (disparity_of plus)))
+        × (results.new ≡ run_results characters.now (disparity_of plus) ++ drop (length characters.now) results.old) }
 {
     let entries = run_table::TABLE;
     let mut p = number_of(plus);
@@ -59,8 +59,8 @@ fn read_each(characters: &[u16], plus: bool, results: &mut [u16]) -> bool
 
 // A run of characters read from a disparity into packed results, with the disparity after it; or refusal 1 or 6.
 pub fn read_run(characters: &[u16], disparity: i32, results: &mut [u16]) -> RunRead
-    ensures { (runSays result ≡ runReading characters.now disparity (length results.old))
-        × (results.new ≡ runOutput characters.now disparity results.old) }
+    ensures { (run_says result ≡ run_reading characters.now disparity (length results.old))
+        × (results.new ≡ run_output characters.now disparity results.old) }
 {
     if !is_disparity(disparity) {
         return RunRead::Refused(refusal::OUT_OF_RANGE);

@@ -8,17 +8,17 @@ use lib.Dec.{T, eqb, ltb, eqb→eq, ltb→lt}
 use lib.ListN.{get_or}
 use Rattle.laws.proofs.Bools.{and_left, and_right}
 use Rattle.laws.proofs.Table.{at}
-use Rattle.character_rules.specs.Disparity.{disparityOf, half_of}
+use Rattle.character_rules.specs.Disparity.{disparity_of, half_of}
 use Rattle.character_rules.specs.Reading.{reading}
 use Rattle.character_rules.specs.Results.{packed}
-use Rattle.character_table.specs.Entries.{resultIn}
+use Rattle.character_table.specs.Entries.{result_in}
 use Rattle.character_table.specs.Table.{table as single}
-use Rattle.character_table.proofs.Held.{table-right}
+use Rattle.character_table.proofs.Held.{table_right}
 use Rattle.run_table.specs.Table.{table}
 
 -- a half is the result that the reader's table has, which is below 4,096
 abbrev same : ℕ → ℕ → ℕ → Bool → Bool
-same c e p plus = eqb (half_of e p) (resultIn (get_or single c 0) plus) && ltb (half_of e p) 4096
+same c e p plus = eqb (half_of e p) (result_in (get_or single c 0) plus) && ltb (half_of e p) 4096
 
 unfoldable right : ℕ → ℕ → Bool
 right c e = same c e 0 false && same c e 1 true
@@ -38,11 +38,11 @@ module _ (c : ℕ) (h : c < 1024) where
   both (suc (suc p)) g = absurd (omega arith)
 
   -- the look-up: a character's half at a disparity's number
-  pub half-right : (p : ℕ) → p < 2 → half_of entry p ≡ packed (reading c (disparityOf (eqb p 1)))
-  half-right p g =
-      eqb→eq (half_of entry p) (resultIn (get_or single c 0) (eqb p 1)) (and_left (eqb (half_of entry p) (resultIn (get_or single c 0) (eqb p 1))) _ (both p g))
-      ∙ table-right c h (eqb p 1)
+  pub half_right : (p : ℕ) → p < 2 → half_of entry p ≡ packed (reading c (disparity_of (eqb p 1)))
+  half_right p g =
+      eqb→eq (half_of entry p) (result_in (get_or single c 0) (eqb p 1)) (and_left (eqb (half_of entry p) (result_in (get_or single c 0) (eqb p 1))) _ (both p g))
+      ∙ table_right c h (eqb p 1)
 
-  pub half-low : (p : ℕ) → p < 2 → half_of entry p < 4096
-  half-low p g =
-      ltb→lt (half_of entry p) 4096 (and_right (eqb (half_of entry p) (resultIn (get_or single c 0) (eqb p 1))) _ (both p g))
+  pub half_low : (p : ℕ) → p < 2 → half_of entry p < 4096
+  half_low p g =
+      ltb→lt (half_of entry p) 4096 (and_right (eqb (half_of entry p) (result_in (get_or single c 0) (eqb p 1))) _ (both p g))

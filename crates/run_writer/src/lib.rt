@@ -1,10 +1,10 @@
 // The writer of runs: data bytes as characters, by a table that is taken once for the run.
 ghost use Rattle.std.specs.Prelude.{◌≡◌, ◌++◌, ◌<◌, ◌≤◌, eqb, length, drop};
-ghost use Rattle.symbol.specs.Symbols.{dataSymbol};
-ghost use Rattle.character_rules.specs.Disparity.{disparityOf};
-ghost use Rattle.character_rules.specs.Answers.{runWrittenSays};
+ghost use Rattle.symbol.specs.Symbols.{data_symbol};
+ghost use Rattle.character_rules.specs.Disparity.{disparity_of};
+ghost use Rattle.character_rules.specs.Answers.{run_written_says};
 ghost use Rattle.character_rules.specs.Results.{mark};
-ghost use Rattle.character_rules.specs.Writing.{runCharacters, runEnd, runWriting, runStored};
+ghost use Rattle.character_rules.specs.Writing.{run_characters, run_end, run_writing, run_stored};
 ghost use Rattle.writer_table.specs.Entries.{form};
 ghost use Rattle.writer_table.specs.Table.{table};
 
@@ -22,7 +22,7 @@ fn number_of(plus: bool) -> u32
 // The look-up: the byte's character, and 1,024 more where it closes at +1.
 fn look_up(entries: &[u32; 256], byte: u8, p: u32) -> u32
     requires { (entries.now ≡ table) × (p < 2) }
-    ensures { result ≡ form (dataSymbol byte) (disparityOf (eqb p 1)) }
+    ensures { result ≡ form (data_symbol byte) (disparity_of (eqb p 1)) }
 {
     let at = byte as usize;
     let entry = entries[at];
@@ -32,8 +32,8 @@ fn look_up(entries: &[u32; 256], byte: u8, p: u32) -> u32
 // The run, with the table taken once: the characters into the output, and the number of the disparity after it.
 fn write_each(bytes: &[u8], from: u32, out: &mut [u16]) -> u32
     requires { (from < 2) × (length bytes.now ≤ length out.old) }
-    ensures { (disparityOf (eqb result 1) ≡ runEnd bytes.now (disparityOf (eqb from 1)))
-        × (out.new ≡ runCharacters bytes.now (disparityOf (eqb from 1)) ++ drop (length bytes.now) out.old) }
+    ensures { (disparity_of (eqb result 1) ≡ run_end bytes.now (disparity_of (eqb from 1)))
+        × (out.new ≡ run_characters bytes.now (disparity_of (eqb from 1)) ++ drop (length bytes.now) out.old) }
 {
     let entries = TABLE;
     let mut p = from;
@@ -49,8 +49,8 @@ fn write_each(bytes: &[u8], from: u32, out: &mut [u16]) -> u32
 
 // A run of data bytes written from a disparity into the front of the output, with the disparity after it; or refusal 1 or 6.
 pub fn write_run(bytes: &[u8], disparity: i32, out: &mut [u16]) -> RunWritten
-    ensures { (runWrittenSays result ≡ runWriting bytes.now disparity (length out.old))
-        × (out.new ≡ runStored bytes.now disparity out.old) }
+    ensures { (run_written_says result ≡ run_writing bytes.now disparity (length out.old))
+        × (out.new ≡ run_stored bytes.now disparity out.old) }
 {
     if !is_disparity(disparity) {
         return RunWritten::Refused(refusal::OUT_OF_RANGE);

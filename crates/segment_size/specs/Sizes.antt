@@ -3,5 +3,5 @@ use Rattle.std.specs.Prelude.{Bool, [], ◌∷◌, ℕ}
 use Rattle.laws.specs.Lists.{one_of}
 
 -- S is 8, 16, 32 up to 1,024
-unfoldable pub sizeAllowed : ℕ → Bool
-sizeAllowed s = one_of s (8 ∷ 16 ∷ 32 ∷ 64 ∷ 128 ∷ 256 ∷ 512 ∷ 1024 ∷ [])
+unfoldable pub size_allowed : ℕ → Bool
+size_allowed s = one_of s (8 ∷ 16 ∷ 32 ∷ 64 ∷ 128 ∷ 256 ∷ 512 ∷ 1024 ∷ [])

@@ -1,6 +1,6 @@
 // A symbol: a byte and a control mark. Its named values, what kind it is, and how one is made.
 ghost use Rattle.std.specs.Prelude.{◌≡◌};
-ghost use Rattle.symbol.specs.Symbols.{named, dataSymbol, controlSymbol, isTwelve, isSymbol, isWritable, opensPacket, opensLmp};
+ghost use Rattle.symbol.specs.Symbols.{named, data_symbol, control_symbol, is_twelve, is_symbol, is_writable, opens_packet, opens_lmp};
 
 #[derive(Drop)]
 pub struct Symbol {
@@ -114,7 +114,7 @@ impl Symbol {
     }
 
     pub fn data(byte: u8) -> Symbol
-        ensures { result ≡ dataSymbol byte }
+        ensures { result ≡ data_symbol byte }
     {
         Symbol {
             byte,
@@ -123,7 +123,7 @@ impl Symbol {
     }
 
     pub fn control(byte: u8) -> Symbol
-        ensures { result ≡ controlSymbol byte }
+        ensures { result ≡ control_symbol byte }
     {
         Symbol {
             byte,
@@ -134,7 +134,7 @@ impl Symbol {
 
 // One of the bytes that the twelve control characters have: K28.0 to K28.7, and four more.
 pub fn is_twelve(byte: u8) -> bool
-    ensures { result ≡ isTwelve byte }
+    ensures { result ≡ is_twelve byte }
 {
     if byte % 32 == 28 {
         return true;
@@ -154,7 +154,7 @@ pub fn is_twelve(byte: u8) -> bool
 impl Symbol {
     // Data of any byte, or one of the twelve.
     pub fn is_symbol(self) -> bool
-        ensures { result ≡ isSymbol self }
+        ensures { result ≡ is_symbol self }
     {
         let byte = self.byte;
         if self.control {
@@ -165,7 +165,7 @@ impl Symbol {
 
     // What the writer may be asked for: any but K28.7.
     pub fn is_writable(self) -> bool
-        ensures { result ≡ isWritable self }
+        ensures { result ≡ is_writable self }
     {
         let byte = self.byte;
         if !self.control {
@@ -179,7 +179,7 @@ impl Symbol {
 
     // Opens a data packet or a priority packet.
     pub fn opens_packet(self) -> bool
-        ensures { result ≡ opensPacket self }
+        ensures { result ≡ opens_packet self }
     {
         let byte = self.byte;
         if self.control {
@@ -193,7 +193,7 @@ impl Symbol {
 
     // Opens a link management packet.
     pub fn opens_lmp(self) -> bool
-        ensures { result ≡ opensLmp self }
+        ensures { result ≡ opens_lmp self }
     {
         let byte = self.byte;
         if self.control {

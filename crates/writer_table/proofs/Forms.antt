@@ -5,29 +5,29 @@ use Prim.Native.Nat.{ℕ, ◌/◌, ◌%◌, ◌<◌}
 use native.Mathlib.Omega.{arith}
 use lib.Dec.{T, eqb}
 use lib.IntN.{ℤ}
-use Rattle.symbol.specs.Symbols.{dataSymbol}
-use Rattle.character_rules.specs.Disparity.{isPlus, isDisparity, disparityOf}
+use Rattle.symbol.specs.Symbols.{data_symbol}
+use Rattle.character_rules.specs.Disparity.{is_plus, is_disparity, disparity_of}
 use Rattle.character_rules.specs.Blocks.{character, closing}
 use Rattle.character_rules.specs.Results.{mark}
-use Rattle.character_rules.proofs.Disparities.{by_sign, closing-disparity}
-use Rattle.character_rules.proofs.Found.{character-range}
-use Rattle.character_rules.proofs.Packed.{mark-low, mark-is}
+use Rattle.character_rules.proofs.Disparities.{by_sign, closing_disparity}
+use Rattle.character_rules.proofs.Found.{character_range}
+use Rattle.character_rules.proofs.Packed.{mark_low, mark_is}
 use Rattle.writer_table.specs.Entries.{form}
 
-module _ (b : ℕ) (d : ℤ) (h : b < 256) (t : T (isDisparity d)) where
-  range : character (dataSymbol b) d < 1024
-  range = character-range (dataSymbol b) d h tt t
+module _ (b : ℕ) (d : ℤ) (h : b < 256) (t : T (is_disparity d)) where
+  range : character (data_symbol b) d < 1024
+  range = character_range (data_symbol b) d h tt t
 
-  pub form-character : form (dataSymbol b) d % 1024 ≡ character (dataSymbol b) d
-  form-character = omega (arith, range, mark-low (isPlus (closing (dataSymbol b) d)))
+  pub form_character : form (data_symbol b) d % 1024 ≡ character (data_symbol b) d
+  form_character = omega (arith, range, mark_low (is_plus (closing (data_symbol b) d)))
 
-  top : form (dataSymbol b) d / 1024 ≡ mark (isPlus (closing (dataSymbol b) d))
-  top = omega (arith, range, mark-low (isPlus (closing (dataSymbol b) d)))
+  top : form (data_symbol b) d / 1024 ≡ mark (is_plus (closing (data_symbol b) d))
+  top = omega (arith, range, mark_low (is_plus (closing (data_symbol b) d)))
 
-  pub form-low : form (dataSymbol b) d / 1024 < 2
-  form-low = omega (arith, top, mark-low (isPlus (closing (dataSymbol b) d)))
+  pub form_low : form (data_symbol b) d / 1024 < 2
+  form_low = omega (arith, top, mark_low (is_plus (closing (data_symbol b) d)))
 
-  pub form-closing : disparityOf (eqb (form (dataSymbol b) d / 1024) 1) ≡ closing (dataSymbol b) d
-  form-closing =
-      ap disparityOf (ap (λ (n : ℕ). eqb n 1) top ∙ mark-is (isPlus (closing (dataSymbol b) d)))
-      ∙ by_sign (closing (dataSymbol b) d) (closing-disparity (dataSymbol b) d t)
+  pub form_closing : disparity_of (eqb (form (data_symbol b) d / 1024) 1) ≡ closing (data_symbol b) d
+  form_closing =
+      ap disparity_of (ap (λ (n : ℕ). eqb n 1) top ∙ mark_is (is_plus (closing (data_symbol b) d)))
+      ∙ by_sign (closing (data_symbol b) d) (closing_disparity (data_symbol b) d t)

@@ -6,16 +6,16 @@ use Prim.Native.Nat.{◌+◌, ◌-◌, ◌*◌, ◌/◌, ◌%◌}
 use native.Mathlib.Omega.{arith}
 use lib.ListN.{get_or-eq_default}
 use Rattle.laws.proofs.Groups.{below_at}
-use Rattle.capture_rules.specs.Capture.{charactersOf}
-use Rattle.capture_rules.proofs.Packing.{characters-length}
+use Rattle.capture_rules.specs.Capture.{characters_of}
+use Rattle.capture_rules.proofs.Packing.{characters_length}
 use Rattle.capture.proofs.Facts.{in_bytes}
 use Rattle.capture.proofs.character_of.Statement.{statement}
 use Rattle.capture.proofs.character_of.Tie as tie
 
 returns : tie.Need-returns
 returns c = let bytes = c.before.before.args.capture.now in
-    let long = characters-length bytes in
-    sym (get_or-eq_default (charactersOf bytes) 0 (omega arith))
+    let long = characters_length bytes in
+    sym (get_or-eq_default (characters_of bytes) 0 (omega arith))
 
 add-k : tie.Need-overflow-add-k
 add-k c = omega arith
@@ -25,8 +25,8 @@ add-if2 c = omega arith
 
 returns-2 : tie.Need-returns-2
 returns-2 c = let bytes = c.before.before.before.args.capture.now in
-    let long = characters-length bytes in
-    sym (get_or-eq_default (charactersOf bytes) 0 (omega arith))
+    let long = characters_length bytes in
+    sym (get_or-eq_default (characters_of bytes) 0 (omega arith))
 
 shared-slice-read-ten-bits : tie.Need-shared-slice-read-ten-bits
 shared-slice-read-ten-bits c = omega arith
@@ -57,8 +57,8 @@ returns-3 c = let s = c.before.before.before.before.before.before in
     c.ten-bits.ensures
     ∙ in_bytes bytes t i (i + i / 4) (i + i / 4 + 1) (6 - 2 * (i % 4)) (omega arith) (omega arith) (omega arith) (omega arith)
 
-pub character-of-spec : {M : Type 1} → statement M
-character-of-spec =
+pub character_of_spec : {M : Type 1} → statement M
+character_of_spec =
     tie.close
     (tie.spec
     returns

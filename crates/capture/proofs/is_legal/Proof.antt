@@ -4,20 +4,20 @@ use borrow.Author.Rules.{rules}
 use native.Mathlib.Omega.{arith}
 use lib.Dec.{eqb}
 use Prim.Native.Nat.{ℕ, ◌%◌}
-use Rattle.capture.proofs.Facts.{one_up, one-up-pos}
-use Rattle.capture_rules.proofs.Legal.{legal-long, legal-one, legal-empty, legal-last}
+use Rattle.capture.proofs.Facts.{one_up, one_up_pos}
+use Rattle.capture_rules.proofs.Legal.{legal_long, legal_one, legal_empty, legal_last}
 use mathlib.Core.Path.{sym, ap₂, ◌∙◌}
 use Rattle.capture.proofs.is_legal.Statement.{statement}
 use Rattle.capture.proofs.is_legal.Tie as tie
 
 returns : tie.Need-returns
-returns c = sym (legal-long c.before.before.args.capture.now (omega arith))
+returns c = sym (legal_long c.before.before.args.capture.now (omega arith))
 
 returns-2 : tie.Need-returns-2
-returns-2 c = sym (legal-one c.before.before.before.args.capture.now (omega arith) (omega arith))
+returns-2 c = sym (legal_one c.before.before.before.args.capture.now (omega arith) (omega arith))
 
 returns-3 : tie.Need-returns-3
-returns-3 c = sym (legal-empty c.before.before.before.before.args.capture.now c.if3.true)
+returns-3 c = sym (legal_empty c.before.before.before.before.args.capture.now c.if3.true)
 
 mul-closing : tie.Need-overflow-mul-closing
 mul-closing c = search rules
@@ -35,15 +35,15 @@ shl-result : tie.Need-overflow-shl-result
 shl-result c = search rules
 
 rem-result : tie.Need-nonzero-rem-result
-rem-result c = one-up-pos _ (omega arith)
+rem-result c = one_up_pos _ (omega arith)
 
 returns-4 : tie.Need-returns-4
 returns-4 c = let bytes = c.before.before.before.before.before.before.args.capture.now in
     ap₂ (λ (x y : ℕ). eqb (x % y) 0) c.wide8.ensures (one_up _ (omega arith))
-    ∙ sym (legal-last bytes (omega arith) c.before.before.before.if2.false)
+    ∙ sym (legal_last bytes (omega arith) c.before.before.before.if2.false)
 
-pub is-legal-spec : {M : Type 1} → statement M
-is-legal-spec =
+pub is_legal_spec : {M : Type 1} → statement M
+is_legal_spec =
     tie.close
     (tie.spec
     returns

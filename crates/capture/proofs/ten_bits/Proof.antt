@@ -24,7 +24,7 @@ shr-result c = search rules
 returns : tie.Need-returns
 returns c = ap₂ (λ (x y : ℕ). (x * 256 + y) / 2 ^ (c.before.before.args.after % 8) % 1024) c.before.wide8.ensures c.wide82.ensures
 
-pub ten-bits-spec : {M : Type 1} → statement M
-ten-bits-spec =
+pub ten_bits_spec : {M : Type 1} → statement M
+ten_bits_spec =
     tie.close
     (tie.spec wide8-requires mul-result wide8-requires-2 add-result shr-result returns)

@@ -4,9 +4,9 @@ use borrow.Author.Rules.{rules}
 use mathlib.Core.Path.{sym, ap₂, ◌∙◌}
 use Prim.Native.Nat.{ℕ, ◌+◌, ◌-◌, ◌*◌, ◌/◌, ◌%◌, ◌^◌}
 use native.Mathlib.Omega.{arith}
-use Rattle.laws.proofs.Bools.{true-T}
-use Rattle.laws.proofs.Groups.{getD-below}
-use Rattle.capture_rules.proofs.Places.{byte-by-place}
+use Rattle.laws.proofs.Bools.{true_t}
+use Rattle.laws.proofs.Groups.{get_or_below}
+use Rattle.capture_rules.proofs.Places.{byte_by_place}
 use Rattle.capture_packing.proofs.byte_of.Statement.{statement}
 use Rattle.capture_packing.proofs.byte_of.Tie as tie
 
@@ -18,11 +18,11 @@ character-or-zero-requires c κs = search rules
 
 mul-two : tie.Need-overflow-mul-two
 mul-two c = let s = c.before.before in
-    let t = true-T _ s.requires.0 in
+    let t = true_t _ s.requires.0 in
     omega (
       arith,
-      getD-below 1024 s.args.characters.now (omega arith) t (8 * s.args.k / 10),
-      getD-below 1024 s.args.characters.now (omega arith) t (8 * s.args.k / 10 + 1),
+      get_or_below 1024 s.args.characters.now (omega arith) t (8 * s.args.k / 10),
+      get_or_below 1024 s.args.characters.now (omega arith) t (8 * s.args.k / 10 + 1),
     )
 
 add-character-or-zero : tie.Need-overflow-add-character-or-zero
@@ -33,11 +33,11 @@ character-or-zero-requires-2 c κs = search rules
 
 add-two : tie.Need-overflow-add-two
 add-two c = let s = c.before.before.before in
-    let t = true-T _ s.requires.0 in
+    let t = true_t _ s.requires.0 in
     omega (
       arith,
-      getD-below 1024 s.args.characters.now (omega arith) t (8 * s.args.k / 10),
-      getD-below 1024 s.args.characters.now (omega arith) t (8 * s.args.k / 10 + 1),
+      get_or_below 1024 s.args.characters.now (omega arith) t (8 * s.args.k / 10),
+      get_or_below 1024 s.args.characters.now (omega arith) t (8 * s.args.k / 10 + 1),
     )
 
 mul-result : tie.Need-overflow-mul-result
@@ -58,10 +58,10 @@ cast-result-2 c = search rules
 returns : tie.Need-returns
 returns c = let s = c.before.before.before in
     ap₂ (λ (x y : ℕ). (x * 1024 + y) / 2 ^ (12 - 8 * s.args.k % 10) % 256) c.before.character-or-zero.ensures c.character-or-zero2.ensures
-    ∙ sym (byte-by-place s.args.characters.now (true-T _ s.requires.0) s.args.k s.requires.2)
+    ∙ sym (byte_by_place s.args.characters.now (true_t _ s.requires.0) s.args.k s.requires.2)
 
-pub byte-of-spec : {M : Type 1} → statement M
-byte-of-spec =
+pub byte_of_spec : {M : Type 1} → statement M
+byte_of_spec =
     tie.close
     (tie.spec
     mul-i

@@ -21,6 +21,6 @@ returns c = search rules
 returns-2 : tie.Need-returns-2
 returns-2 c = sym (get_or-eq_default c.before.before.args.characters.now 0 c.if1.false)
 
-pub character-or-zero-spec : {M : Type 1} → statement M
-character-or-zero-spec =
+pub character_or_zero_spec : {M : Type 1} → statement M
+character_or_zero_spec =
     tie.close (tie.spec mul-wide16 shared-slice-read-wide16 wide16-requires returns returns-2)

@@ -6,15 +6,15 @@ use Prim.Native.Nat.{ℕ, ◌*◌, ◌/◌, ◌≤◌, ◌-◌}
 use borrow.Author.Rules.{rules}
 use native.Mathlib.Omega.{arith}
 use lib.ListN.{length, take, drop, set, get_or, length-set}
-use Rattle.laws.proofs.Stores.{store-next}
-use Rattle.capture_rules.specs.Capture.{charactersOf}
-use Rattle.capture_rules.proofs.Packing.{characters-length}
-use Rattle.capture_unpacking.proofs.Facts.{past-front, all-stored}
+use Rattle.laws.proofs.Stores.{store_next}
+use Rattle.capture_rules.specs.Capture.{characters_of}
+use Rattle.capture_rules.proofs.Packing.{characters_length}
+use Rattle.capture_unpacking.proofs.Facts.{past_front, all_stored}
 use Rattle.capture_unpacking.proofs.store_characters.Statement.{statement}
 use Rattle.capture_unpacking.proofs.store_characters.Tie as tie
 
 abbrev invariant-loop : tie.invariant-loop
-invariant-loop capture n out₀ fours i₀ out i = (i ≤ n) × (out ≡ take i (charactersOf capture) ++ drop i out₀) × (length out ≡ length out₀)
+invariant-loop capture n out₀ fours i₀ out i = (i ≤ n) × (out ≡ take i (characters_of capture) ++ drop i out₀) × (length out ≡ length out₀)
 
 abbrev decreases-loop : tie.decreases-loop
 decreases-loop capture n out₀ fours i₀ out i = n - i
@@ -28,10 +28,10 @@ mul-i c = omega arith
 loop-holds : tie.Need-loop-init invariant-loop decreases-loop
 loop-holds c = let s = c.before.before.before.before.before.before in
     let stored = c.before.before.store-fours.ensures in
-    let result = charactersOf s.args.capture.now in
+    let result = characters_of s.args.capture.now in
     let i : ℕ = 4 * (s.args.n / 4) in
-    let e = characters-length s.args.capture.now in
-    (omega arith, stored ∙ ap (λ (l : List ℕ). take i result ++ l) (sym (past-front result s.args.out.now i i _ (omega arith) (omega arith) stored)), refl)
+    let e = characters_length s.args.capture.now in
+    (omega arith, stored ∙ ap (λ (l : List ℕ). take i result ++ l) (sym (past_front result s.args.out.now i i _ (omega arith) (omega arith) stored)), refl)
 
 character-of-requires : tie.Need-character-of-requires invariant-loop decreases-loop
 character-of-requires c κs = search rules
@@ -51,12 +51,12 @@ loop-less c = omega arith
 loop-again : tie.Need-loop-preserved invariant-loop decreases-loop
 loop-again c = let l = c.before.before.loop in
     let s = c.before.before.before.before.before.before.before.before.before in
-    let result = charactersOf s.args.capture.now in
-    let e = characters-length s.args.capture.now in (
+    let result = characters_of s.args.capture.now in
+    let e = characters_length s.args.capture.now in (
       omega arith,
       ap (λ (v : ℕ). set l.out l.i v) c.character-of.ensures
           ∙ ap (λ (x : List ℕ). set x l.i (get_or result l.i 0)) l.invariant.1
-          ∙ store-next result _ 0 l.i (omega arith) (omega arith),
+          ∙ store_next result _ 0 l.i (omega arith) (omega arith),
       simp length-set l.invariant.2,
     )
 
@@ -66,13 +66,13 @@ same_length c = omega arith
 returns : tie.Need-returns invariant-loop decreases-loop
 returns c = let l = c.before.loop in
     let s = c.before.before.before.before.before.before.before.before in
-    let size = characters-length s.args.capture.now ∙ sym s.requires.1 in
+    let size = characters_length s.args.capture.now ∙ sym s.requires.1 in
     let stored = c.before.before.before.before.store-fours.ensures in
-    all-stored (charactersOf s.args.capture.now) s.args.out.now (4 * (s.args.n / 4)) l.i s.args.n _ _ (omega arith)
+    all_stored (characters_of s.args.capture.now) s.args.out.now (4 * (s.args.n / 4)) l.i s.args.n _ _ (omega arith)
     (omega arith) size stored l.invariant.1
 
-pub store-characters-spec : {M : Type 1} → statement M
-store-characters-spec =
+pub store_characters_spec : {M : Type 1} → statement M
+store_characters_spec =
     tie.close
     (tie.spec
     invariant-loop

@@ -75,8 +75,8 @@ returns c = let s = c.before.before.before.before.before in
     let three = ap₂ (λ (x y : ℕ). set (set s.args.out.now i x) (i + 1) y) c.before.before.before.ten-bits.ensures c.before.before.ten-bits2.ensures in
     ap₂ (λ (l : List ℕ) (x : ℕ). set l (i + 3) x) (ap₂ (λ (l : List ℕ) (x : ℕ). set l (i + 2) x) three c.before.ten-bits3.ensures) c.ten-bits4.ensures
 
-pub store-four-spec : {M : Type 1} → statement M
-store-four-spec =
+pub store_four_spec : {M : Type 1} → statement M
+store_four_spec =
     tie.close
     (tie.spec
     ten-bits-requires

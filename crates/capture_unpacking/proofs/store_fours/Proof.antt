@@ -6,13 +6,13 @@ use Prim.Native.Nat.{ℕ, ◌*◌, ◌≤◌, ◌-◌}
 use native.Mathlib.Omega.{arith}
 use lib.ListN.{length, take, drop}
 use Rattle.laws.proofs.Groups.{below_at}
-use Rattle.capture_rules.specs.Capture.{charactersOf}
-use Rattle.capture_unpacking.proofs.Facts.{four-stored}
+use Rattle.capture_rules.specs.Capture.{characters_of}
+use Rattle.capture_unpacking.proofs.Facts.{four_stored}
 use Rattle.capture_unpacking.proofs.store_fours.Statement.{statement}
 use Rattle.capture_unpacking.proofs.store_fours.Tie as tie
 
 abbrev invariant-loop : tie.invariant-loop
-invariant-loop capture fours out₀ g₀ out g = (g ≤ fours) × (out ≡ take (4 * g) (charactersOf capture) ++ drop (4 * g) out₀) × (length out ≡ length out₀)
+invariant-loop capture fours out₀ g₀ out g = (g ≤ fours) × (out ≡ take (4 * g) (characters_of capture) ++ drop (4 * g) out₀) × (length out ≡ length out₀)
 
 abbrev decreases-loop : tie.decreases-loop
 decreases-loop capture fours out₀ g₀ out g = fours - g
@@ -68,7 +68,7 @@ loop-again c = let p = c.before.before.before.before in
     let s = p.before.before.before.before.before.before.before.before.before in
     let bytes = s.args.capture.now in
     let t = below_at 256 bytes (λ i. (p.shared-slice-known6.given i).fits) in
-    let four = four-stored bytes s.args.out.now t l.g (omega arith) (omega arith) l.out l.invariant.1 l.invariant.2 _ c.before.before.store-four.ensures in
+    let four = four_stored bytes s.args.out.now t l.g (omega arith) (omega arith) l.out l.invariant.1 l.invariant.2 _ c.before.before.store-four.ensures in
     (omega arith, four.0, four.1)
 
 same_length : tie.Need-same-length invariant-loop decreases-loop
@@ -78,10 +78,10 @@ returns : tie.Need-returns invariant-loop decreases-loop
 returns c = let l = c.before.loop in
     let s = c.before.before.before.before in
     let e : l.g ≡ s.args.fours = omega arith in
-    l.invariant.1 ∙ ap (λ (g : ℕ). take (4 * g) (charactersOf s.args.capture.now) ++ drop (4 * g) s.args.out.now) e
+    l.invariant.1 ∙ ap (λ (g : ℕ). take (4 * g) (characters_of s.args.capture.now) ++ drop (4 * g) s.args.out.now) e
 
-pub store-fours-spec : {M : Type 1} → statement M
-store-fours-spec =
+pub store_fours_spec : {M : Type 1} → statement M
+store_fours_spec =
     tie.close
     (tie.spec
     invariant-loop

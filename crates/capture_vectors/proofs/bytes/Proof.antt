@@ -41,8 +41,8 @@ loop-again c = search rules
 returns : tie.Need-returns invariant-loop decreases-loop
 returns c = search rules
 
-pub bytes-spec : {M : Type 1} → statement M
-bytes-spec =
+pub bytes_spec : {M : Type 1} → statement M
+bytes_spec =
     tie.close
     (tie.spec
     invariant-loop

@@ -24,8 +24,8 @@ returns c = search rules
 returns-2 : tie.Need-returns-2
 returns-2 c = search rules
 
-pub length-of-spec : {M : Type 1} → statement M
-length-of-spec =
+pub length_of_spec : {M : Type 1} → statement M
+length_of_spec =
     tie.close
     (tie.spec
     slice-relend-prefix-length-case

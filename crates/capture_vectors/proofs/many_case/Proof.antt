@@ -42,8 +42,8 @@ same_length c = search rules
 returns-2 : tie.Need-returns-2
 returns-2 c = search rules
 
-pub many-case-spec : {M : Type 1} → statement M
-many-case-spec =
+pub many_case_spec : {M : Type 1} → statement M
+many_case_spec =
     tie.close
     (tie.spec
     slice-aggregate-write-all

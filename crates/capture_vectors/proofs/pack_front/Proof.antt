@@ -21,6 +21,6 @@ returns c = search rules
 returns-2 : tie.Need-returns-2
 returns-2 c = search rules
 
-pub pack-front-spec : {M : Type 1} → statement M
-pack-front-spec =
+pub pack_front_spec : {M : Type 1} → statement M
+pack_front_spec =
     tie.close (tie.spec slice-aggregate-pack-case pack-case-requires same_length returns returns-2)

@@ -27,8 +27,8 @@ returns c = search rules
 returns-2 : tie.Need-returns-2
 returns-2 c = search rules
 
-pub pack-into-spec : {M : Type 1} → statement M
-pack-into-spec =
+pub pack_into_spec : {M : Type 1} → statement M
+pack_into_spec =
     tie.close
     (tie.spec
     slice-relend-prefix-pack

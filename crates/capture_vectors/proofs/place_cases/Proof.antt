@@ -29,8 +29,8 @@ loop-again c = search rules
 returns : tie.Need-returns invariant-loop decreases-loop
 returns c = search rules
 
-pub place-cases-spec : {M : Type 1} → statement M
-place-cases-spec =
+pub place_cases_spec : {M : Type 1} → statement M
+place_cases_spec =
     tie.close
     (tie.spec
     invariant-loop

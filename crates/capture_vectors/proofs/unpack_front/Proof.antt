@@ -21,7 +21,7 @@ returns c = search rules
 returns-2 : tie.Need-returns-2
 returns-2 c = search rules
 
-pub unpack-front-spec : {M : Type 1} → statement M
-unpack-front-spec =
+pub unpack_front_spec : {M : Type 1} → statement M
+unpack_front_spec =
     tie.close
     (tie.spec slice-aggregate-unpack-case unpack-case-requires same_length returns returns-2)

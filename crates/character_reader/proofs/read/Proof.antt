@@ -5,28 +5,28 @@ use mathlib.Core.Bool.{Bool}
 use native.Mathlib.Omega.{arith}
 use lib.IntN.{ℤ}
 use mir.Facts.{to_z-of_z}
-use Rattle.laws.proofs.Bools.{true-T}
-use Rattle.character_rules.specs.Disparity.{isPlus, isDisparity, disparityOf}
+use Rattle.laws.proofs.Bools.{true_t}
+use Rattle.character_rules.specs.Disparity.{is_plus, is_disparity, disparity_of}
 use Rattle.character_rules.specs.Reading.{reading}
 use Rattle.character_rules.specs.Results.{packed, unpacked}
 use Rattle.character_rules.proofs.Disparities.{by_sign}
-use Rattle.character_rules.proofs.Packed.{unpacked-reading}
-use Rattle.character_rules.proofs.Laws.{reading-far, reading-bad}
+use Rattle.character_rules.proofs.Packed.{unpacked_reading}
+use Rattle.character_rules.proofs.Laws.{reading_far, reading_bad}
 use Rattle.character_table.specs.Table.{table}
-use Rattle.disparity.proofs.Signed.{told_none, told-disparity}
+use Rattle.disparity.proofs.Signed.{told_none, told_disparity}
 use borrow.Author.Rules.{rules}
 use Rattle.character_reader.proofs.read.Statement.{statement}
 use Rattle.character_reader.proofs.read.Tie as tie
 
 returns : tie.Need-returns
-returns c = sym (reading-far c.before.args.character c.before.args.disparity c.if1.true)
+returns c = sym (reading_far c.before.args.character c.before.args.disparity c.if1.true)
 
 is-disparity-requires : tie.Need-is-disparity-requires
 is-disparity-requires c κs = search rules
 
 returns-2 : tie.Need-returns-2
 returns-2 c = let a = c.before.before.before in
-    sym (reading-bad a.args.character a.args.disparity (omega arith)
+    sym (reading_bad a.args.character a.args.disparity (omega arith)
     (told_none _ a.args.disparity _ (to_z-of_z a.ranges.disparity) c.before.is-disparity.ensures c.if2.true))
 
 is-plus-requires : tie.Need-is-plus-requires
@@ -45,13 +45,13 @@ returns-3 c =
     let a = b6.before in
     let d = a.args.disparity in
     let n = a.args.character in
-    let t = true-T (isDisparity d)
-    (told-disparity _ d _ (to_z-of_z a.ranges.disparity) b5.is-disparity.ensures b4.if2.false) in
+    let t = true_t (is_disparity d)
+    (told_disparity _ d _ (to_z-of_z a.ranges.disparity) b5.is-disparity.ensures b4.if2.false) in
     c.unpack-result.ensures
     ∙ ap unpacked (b1.look_up.ensures
-    ∙ ap (λ (p : Bool). packed (reading n (disparityOf p))) (b2.is-plus.ensures ∙ ap isPlus (to_z-of_z a.ranges.disparity))
+    ∙ ap (λ (p : Bool). packed (reading n (disparity_of p))) (b2.is-plus.ensures ∙ ap is_plus (to_z-of_z a.ranges.disparity))
     ∙ ap (λ (z : ℤ). packed (reading n z)) (by_sign d t))
-    ∙ unpacked-reading n d (omega arith) t
+    ∙ unpacked_reading n d (omega arith) t
 
 pub read_spec : {M : Type 1} → statement M
 read_spec =

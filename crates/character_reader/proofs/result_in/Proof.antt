@@ -16,5 +16,5 @@ returns c = simp c.if1.true
 returns-2 : tie.Need-returns-2
 returns-2 c = simp c.if1.false
 
-pub result-in-spec : {M : Type 1} → statement M
-result-in-spec = tie.close (tie.spec mul-result add-result returns returns-2)
+pub result_in_spec : {M : Type 1} → statement M
+result_in_spec = tie.close (tie.spec mul-result add-result returns returns-2)

@@ -35,8 +35,8 @@ loop-again c = search rules
 returns : tie.Need-returns invariant-loop decreases-loop
 returns c = search rules
 
-pub all-characters-spec : {M : Type 1} → statement M
-all-characters-spec =
+pub all_characters_spec : {M : Type 1} → statement M
+all_characters_spec =
     tie.close
     (tie.spec
     invariant-loop

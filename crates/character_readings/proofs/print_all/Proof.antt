@@ -29,7 +29,7 @@ loop-again c = search rules
 returns : tie.Need-returns invariant-loop decreases-loop
 returns c = search rules
 
-pub print-all-spec : {M : Type 1} → statement M
-print-all-spec =
+pub print_all_spec : {M : Type 1} → statement M
+print_all_spec =
     tie.close
     (tie.spec invariant-loop decreases-loop loop-holds print-reading-requires add-c loop-less loop-again returns)

@@ -41,8 +41,8 @@ loop-again c = search rules
 returns : tie.Need-returns invariant-loop decreases-loop
 returns c = search rules
 
-pub print-results-spec : {M : Type 1} → statement M
-print-results-spec =
+pub print_results_spec : {M : Type 1} → statement M
+print_results_spec =
     tie.close
     (tie.spec
     invariant-loop

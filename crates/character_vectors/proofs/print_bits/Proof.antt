@@ -41,8 +41,8 @@ loop-again c = search rules
 returns : tie.Need-returns invariant-loop decreases-loop
 returns c = search rules
 
-pub print-bits-spec : {M : Type 1} → statement M
-print-bits-spec =
+pub print_bits_spec : {M : Type 1} → statement M
+print_bits_spec =
     tie.close
     (tie.spec
     invariant-loop

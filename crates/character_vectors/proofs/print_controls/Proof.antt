@@ -53,8 +53,8 @@ loop-again c = search rules
 returns : tie.Need-returns invariant-loop decreases-loop
 returns c = search rules
 
-pub print-controls-spec : {M : Type 1} → statement M
-print-controls-spec =
+pub print_controls_spec : {M : Type 1} → statement M
+print_controls_spec =
     tie.close
     (tie.spec
     invariant-loop

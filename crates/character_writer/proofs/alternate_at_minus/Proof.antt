@@ -1,6 +1,6 @@
 -- Each way out by the tests that led there.
 -- Assumes nothing.
-use Rattle.character_writer.proofs.Chosen.{minus-last}
+use Rattle.character_writer.proofs.Chosen.{minus_last}
 use borrow.Author.Tests.{eq-eqb, ne_eqb}
 use Rattle.character_writer.proofs.alternate_at_minus.Statement.{statement}
 use Rattle.character_writer.proofs.alternate_at_minus.Tie as tie
@@ -17,7 +17,7 @@ returns-3 c = simp (c.before.before.if1.false, ne_eqb _ _ c.before.if2.false, eq
 returns-4 : tie.Need-returns-4
 returns-4 c =
     let b1 = c.before in let b2 = b1.before in let b3 = b2.before in
-    minus-last b3.args.plus b3.args.x b2.if1.false b1.if2.false c.if3.false
+    minus_last b3.args.plus b3.args.x b2.if1.false b1.if2.false c.if3.false
 
-pub alternate-at-minus-spec : {M : Type 1} → statement M
-alternate-at-minus-spec = tie.close (tie.spec returns returns-2 returns-3 returns-4)
+pub alternate_at_minus_spec : {M : Type 1} → statement M
+alternate_at_minus_spec = tie.close (tie.spec returns returns-2 returns-3 returns-4)

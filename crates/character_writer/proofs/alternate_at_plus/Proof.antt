@@ -1,6 +1,6 @@
 -- Each way out by the tests that led there.
 -- Assumes nothing.
-use Rattle.character_writer.proofs.Chosen.{plus-last}
+use Rattle.character_writer.proofs.Chosen.{plus_last}
 use borrow.Author.Tests.{eq-eqb, ne_eqb, not-true, not-false}
 use Rattle.character_writer.proofs.alternate_at_plus.Statement.{statement}
 use Rattle.character_writer.proofs.alternate_at_plus.Tie as tie
@@ -19,7 +19,7 @@ returns-3 c =
 returns-4 : tie.Need-returns-4
 returns-4 c =
     let b1 = c.before in let b2 = b1.before in let b3 = b2.before in
-    plus-last b3.args.plus b3.args.x (not-false _ b2.if1.false) b1.if2.false c.if3.false
+    plus_last b3.args.plus b3.args.x (not-false _ b2.if1.false) b1.if2.false c.if3.false
 
-pub alternate-at-plus-spec : {M : Type 1} → statement M
-alternate-at-plus-spec = tie.close (tie.spec returns returns-2 returns-3 returns-4)
+pub alternate_at_plus_spec : {M : Type 1} → statement M
+alternate_at_plus_spec = tie.close (tie.spec returns returns-2 returns-3 returns-4)

@@ -22,6 +22,6 @@ returns c =
       omega (arith, c.in-force.ensures.1),
     )
 
-pub four-by-list-spec : {M : Type 1} → statement M
-four-by-list-spec =
+pub four_by_list_spec : {M : Type 1} → statement M
+four_by_list_spec =
     tie.close (tie.spec four-listed-requires four-changes-requires in-force-requires returns)

@@ -17,5 +17,5 @@ returns-2 c = simp (c.before.before.if1.false, sym c.before.four-unbalanced.ensu
 returns-3 : tie.Need-returns-3
 returns-3 c = simp (c.before.before.if1.false, sym c.before.four-unbalanced.ensures ∙ c.if2.false)
 
-pub four-changes-spec : {M : Type 1} → statement M
-four-changes-spec = tie.close (tie.spec returns four-unbalanced-requires returns-2 returns-3)
+pub four_changes_spec : {M : Type 1} → statement M
+four_changes_spec = tie.close (tie.spec returns four-unbalanced-requires returns-2 returns-3)

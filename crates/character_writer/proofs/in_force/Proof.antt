@@ -17,5 +17,5 @@ returns-2 c = (simp (c.before.if1.true, c.if2.false), omega arith)
 returns-3 : tie.Need-returns-3
 returns-3 c = (simp c.if1.false, omega arith)
 
-pub in-force-spec : {M : Type 1} → statement M
-in-force-spec = tie.close (tie.spec sub-result returns returns-2 returns-3)
+pub in_force_spec : {M : Type 1} → statement M
+in_force_spec = tie.close (tie.spec sub-result returns returns-2 returns-3)

@@ -1,6 +1,6 @@
 -- The listed block, set at the disparity in force.
 -- Assumes nothing.
-use Rattle.character_writer.proofs.Chosen.{six-is}
+use Rattle.character_writer.proofs.Chosen.{six_is}
 use native.Mathlib.Omega.{arith}
 use borrow.Author.Rules.{rules}
 use Rattle.character_writer.proofs.six_block.Statement.{statement}
@@ -18,10 +18,10 @@ in-force-requires c κs = search rules
 returns : tie.Need-returns
 returns c =
     let b1 = c.before in let b2 = b1.before in let a = b2.before.args in (
-      six-is a.control a.x _ _ _ a.plus b2.six-listed.ensures.0 b1.six-changes.ensures c.in-force.ensures.0,
+      six_is a.control a.x _ _ _ a.plus b2.six-listed.ensures.0 b1.six-changes.ensures c.in-force.ensures.0,
       omega (arith, c.in-force.ensures.1),
     )
 
-pub six-block-spec : {M : Type 1} → statement M
-six-block-spec =
+pub six_block_spec : {M : Type 1} → statement M
+six_block_spec =
     tie.close (tie.spec six-listed-requires six-changes-requires in-force-requires returns)

@@ -17,5 +17,5 @@ returns-2 c = simp (c.before.before.if1.false, sym c.before.six-unbalanced.ensur
 returns-3 : tie.Need-returns-3
 returns-3 c = simp (c.before.before.if1.false, sym c.before.six-unbalanced.ensures ∙ c.if2.false)
 
-pub six-changes-spec : {M : Type 1} → statement M
-six-changes-spec = tie.close (tie.spec returns six-unbalanced-requires returns-2 returns-3)
+pub six_changes_spec : {M : Type 1} → statement M
+six_changes_spec = tie.close (tie.spec returns six-unbalanced-requires returns-2 returns-3)

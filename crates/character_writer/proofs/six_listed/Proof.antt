@@ -3,7 +3,7 @@
 use mathlib.Core.Logic.{⊎_elim}
 use lib.Dec.{ltb, ltb→lt, lit<}
 use Rattle.laws.proofs.Table.{at}
-use Rattle.character_rules.specs.Blocks.{sixBlocks}
+use Rattle.character_rules.specs.Blocks.{six_blocks}
 use borrow.Author.Tests.{eq-eqb, ne_eqb}
 use borrow.Author.Rules.{rules}
 use Rattle.character_writer.proofs.six_listed.Statement.{statement}
@@ -16,11 +16,11 @@ array-read-result : tie.Need-array-read-result
 array-read-result c = search rules
 
 returns-2 : tie.Need-returns-2
-unfolding sixBlocks
+unfolding six_blocks
 returns-2 c = (
   ⊎_elim (λ w. simp (w.0.taken, ne_eqb _ _ w.1.left)) (λ w. simp w.left) c.if1.branch,
-  ltb→lt _ _ (at (λ k b. ltb b 64) sixBlocks tt c.before.args.x (search rules)),
+  ltb→lt _ _ (at (λ k b. ltb b 64) six_blocks tt c.before.args.x (search rules)),
 )
 
-pub six-listed-spec : {M : Type 1} → statement M
-six-listed-spec = tie.close (tie.spec returns array-read-result returns-2)
+pub six_listed_spec : {M : Type 1} → statement M
+six_listed_spec = tie.close (tie.spec returns array-read-result returns-2)

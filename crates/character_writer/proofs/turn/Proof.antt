@@ -1,11 +1,11 @@
 -- Each way out by the tests that led there.
 -- Assumes nothing.
-use Rattle.disparity.proofs.Signed.{keeps, turns, minus-fits}
+use Rattle.disparity.proofs.Signed.{keeps, turns, minus_fits}
 use Rattle.character_writer.proofs.turn.Statement.{statement}
 use Rattle.character_writer.proofs.turn.Tie as tie
 
 sub-result : tie.Need-overflow-sub-result
-sub-result c = minus-fits c.before.args.d c.before.requires
+sub-result c = minus_fits c.before.args.d c.before.requires
 
 returns : tie.Need-returns
 returns c = turns c.before.args.over c.before.args.d c.before.requires c.if1.true

@@ -1,6 +1,6 @@
 -- The two blocks are those of the rules, at the disparities of the rules.
 -- Assumes nothing.
-use Rattle.character_writer.proofs.Chosen.{blocks-right}
+use Rattle.character_writer.proofs.Chosen.{blocks_right}
 use borrow.Author.Rules.{rules}
 use Rattle.character_writer.proofs.write_blocks.Statement.{statement}
 use Rattle.character_writer.proofs.write_blocks.Tie as tie
@@ -51,12 +51,12 @@ returns : tie.Need-returns
 returns c =
     let b1 = c.before in let b2 = b1.before in let b3 = b2.before in let b4 = b3.before in let b5 = b4.before in let b6 = b5.before in
     let b7 = b6.before in let s = b7.before in
-    blocks-right s.args.s _ _ _ _ s.args.d _ _ _ _ s.requires b4.turn.ensures.1 c.turn2.ensures.1 b7.is-plus.ensures
+    blocks_right s.args.s _ _ _ _ s.args.d _ _ _ _ s.requires b4.turn.ensures.1 c.turn2.ensures.1 b7.is-plus.ensures
     b6.six-block.ensures.0 b5.six-unbalanced.ensures b4.turn.ensures.0 b3.is-plus2.ensures b2.four-block.ensures.0
     b1.four-unbalanced.ensures c.turn2.ensures.0
 
-pub write-blocks-spec : {M : Type 1} → statement M
-write-blocks-spec =
+pub write_blocks_spec : {M : Type 1} → statement M
+write_blocks_spec =
     tie.close
     (tie.spec
     cast-x

@@ -5,7 +5,7 @@ use mathlib.Core.List.{[], ◌∷◌}
 use Prim.Native.Nat.{ℕ, ◌-◌, ◌/◌, ◌%◌}
 use native.Mathlib.Omega.{arith}
 use borrow.Author.Rules.{rules}
-use Rattle.crc.proofs.Laws.{check-bytes}
+use Rattle.crc.proofs.Laws.{check_bytes_lem}
 use Rattle.crc.proofs.check_bytes.Statement.{statement}
 use Rattle.crc.proofs.check_bytes.Tie as tie
 
@@ -25,7 +25,7 @@ returns : tie.Need-returns
 returns c =
     let r = c.args.register in
     let m : r / 256 ≡ r / 256 % 256 = omega arith in
-    ap (λ (x : ℕ). (255 - r % 256) ∷ (255 - x) ∷ []) m ∙ sym (check-bytes r)
+    ap (λ (x : ℕ). (255 - r % 256) ∷ (255 - x) ∷ []) m ∙ sym (check_bytes_lem r)
 
-pub check-bytes-spec : {M : Type 1} → statement M
-check-bytes-spec = tie.close (tie.spec sub-t3 cast-t4 sub-t6 cast-t7 returns)
+pub check_bytes_spec : {M : Type 1} → statement M
+check_bytes_spec = tie.close (tie.spec sub-t3 cast-t4 sub-t6 cast-t7 returns)

@@ -3,8 +3,8 @@
 use mathlib.Core.Path.{sym, ap, ◌∙◌}
 use Prim.Native.Nat.{ℕ}
 use borrow.Author.Rules.{rules}
-use Rattle.crc.specs.Crc16.{crcFrom, checkBytesOf, crcOf}
-use Rattle.crc.proofs.Laws.{start-value}
+use Rattle.crc.specs.Crc16.{crc_from, check_bytes_of, crc_of}
+use Rattle.crc.proofs.Laws.{start_value}
 use Rattle.crc.proofs.check_of.Statement.{statement}
 use Rattle.crc.proofs.check_of.Tie as tie
 
@@ -15,11 +15,11 @@ check-bytes-requires : tie.Need-check-bytes-requires
 check-bytes-requires c κs = search rules
 
 returns : tie.Need-returns
-unfolding crcOf
+unfolding crc_of
 returns c =
     let xs = c.before.before.before.args.bytes.now in
     c.check-bytes.ensures
-    ∙ ap checkBytesOf (c.before.run.ensures ∙ ap (λ (r : ℕ). crcFrom r xs) (sym start-value))
+    ∙ ap check_bytes_of (c.before.run.ensures ∙ ap (λ (r : ℕ). crc_from r xs) (sym start_value))
 
-pub check-of-spec : {M : Type 1} → statement M
-check-of-spec = tie.close (tie.spec run-requires check-bytes-requires returns)
+pub check_of_spec : {M : Type 1} → statement M
+check_of_spec = tie.close (tie.spec run-requires check-bytes-requires returns)

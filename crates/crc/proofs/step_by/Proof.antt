@@ -7,7 +7,7 @@ use native.Mathlib.Omega.{arith}
 use lib.Bits.{bit_xor}
 use lib.ListN.{get_or}
 use borrow.Author.Rules.{rules}
-use Rattle.crc.proofs.Byte.{by-halves, by-table}
+use Rattle.crc.proofs.Byte.{by_halves, by_table}
 use Rattle.crc.proofs.step_by.Statement.{statement}
 use Rattle.crc.proofs.step_by.Tie as tie
 
@@ -25,8 +25,8 @@ returns c =
     let r = c.before.args.register in
     let b = c.before.args.byte in
     let k = bit_xor r b % 256 in
-    ap (bit_xor (r / 256)) (ap (λ (t : List ℕ). get_or t k 0) c.before.requires ∙ by-table k (omega arith))
-    ∙ sym (by-halves r b (omega arith) (omega arith))
+    ap (bit_xor (r / 256)) (ap (λ (t : List ℕ). get_or t k 0) c.before.requires ∙ by_table k (omega arith))
+    ∙ sym (by_halves r b (omega arith) (omega arith))
 
-pub step-by-spec : {M : Type 1} → statement M
-step-by-spec = tie.close (tie.spec cast-result mul-result element-copy-out-result returns)
+pub step_by_spec : {M : Type 1} → statement M
+step_by_spec = tie.close (tie.spec cast-result mul-result element-copy-out-result returns)

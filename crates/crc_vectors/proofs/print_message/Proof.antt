@@ -50,8 +50,8 @@ returns c = search rules
 returns-2 : tie.Need-returns-2 invariant-loop decreases-loop
 returns-2 c = search rules
 
-pub print-message-spec : {M : Type 1} → statement M
-print-message-spec =
+pub print_message_spec : {M : Type 1} → statement M
+print_message_spec =
     tie.close
     (tie.spec
     invariant-loop

@@ -9,5 +9,5 @@ returns c = simp c.if1.true
 returns-2 : tie.Need-returns-2
 returns-2 c = simp c.if1.false
 
-pub disparity-of-spec : {M : Type 1} → statement M
-disparity-of-spec = tie.close (tie.spec returns returns-2)
+pub disparity_of_spec : {M : Type 1} → statement M
+disparity_of_spec = tie.close (tie.spec returns returns-2)

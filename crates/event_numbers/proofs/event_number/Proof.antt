@@ -1,6 +1,6 @@
 -- By the event.
 -- Assumes nothing.
-use Rattle.events_rules.specs.Numbers.{packedEvent}
+use Rattle.events_rules.specs.Numbers.{packed_event}
 use borrow.Author.Rules.{rules}
 use Rattle.event_numbers.proofs.event_number.Statement.{statement}
 use Rattle.event_numbers.proofs.event_number.Tie as tie
@@ -54,39 +54,39 @@ enum-told-2 : tie.Need-enum-told-2
 enum-told-2 c = search rules
 
 returns : tie.Need-returns
-unfolding packedEvent
+unfolding packed_event
 returns c = simp c.enum_told.given.1
 
 returns-2 : tie.Need-returns-2
-unfolding packedEvent
+unfolding packed_event
 returns-2 c = simp (c.number_of_lem.ensures, c.before.before.e.given.1)
 
 returns-3 : tie.Need-returns-3
-unfolding packedEvent
+unfolding packed_event
 returns-3 c = simp (c.number-of2.ensures, c.before.before.e2.given.1)
 
 returns-4 : tie.Need-returns-4
-unfolding packedEvent
+unfolding packed_event
 returns-4 c = simp (c.number-of3.ensures, c.before.before.e3.given.1)
 
 returns-5 : tie.Need-returns-5
-unfolding packedEvent
+unfolding packed_event
 returns-5 c = simp (c.number-of4.ensures, c.before.before.e4.given.1)
 
 returns-6 : tie.Need-returns-6
-unfolding packedEvent
+unfolding packed_event
 returns-6 c = simp (c.number-of5.ensures, c.before.mark-number.ensures, c.before.before.before.e5.given.1)
 
 returns-7 : tie.Need-returns-7
-unfolding packedEvent
+unfolding packed_event
 returns-7 c = simp (c.number-of6.ensures, c.before.mark-number2.ensures, c.before.before.before.e6.given.1)
 
 returns-8 : tie.Need-returns-8
-unfolding packedEvent
+unfolding packed_event
 returns-8 c = simp c.enum-told2.given.1
 
-pub event-number-spec : {M : Type 1} → statement M
-event-number-spec =
+pub event_number_spec : {M : Type 1} → statement M
+event_number_spec =
     tie.close
     (tie.spec
     enum_told

@@ -6,12 +6,12 @@ use borrow.Author.Rules.{rules}
 use lib.IntN.{ℤ}
 use lib.ListN.{length}
 use mir.Facts.{to_z-of_z}
-use Rattle.laws.proofs.Bools.{true-T}
-use Rattle.refusal.specs.Order.{refusalOf}
-use Rattle.character_rules.specs.Disparity.{isPlus}
-use Rattle.capture_rules.proofs.Packing.{legal-size}
-use Rattle.events_rules.specs.Events.{captureChecks, notReadCapture}
-use Rattle.events_rules.proofs.Answers.{read-refused, read-passed}
+use Rattle.laws.proofs.Bools.{true_t}
+use Rattle.refusal.specs.Order.{refusal_of}
+use Rattle.character_rules.specs.Disparity.{is_plus}
+use Rattle.capture_rules.proofs.Packing.{legal_size}
+use Rattle.events_rules.specs.Events.{capture_checks, not_read_capture}
+use Rattle.events_rules.proofs.Answers.{read_refused, read_passed}
 use Rattle.events.proofs.Whole.{is_read}
 use Rattle.events.proofs.read_capture.Statement.{statement}
 use Rattle.events.proofs.read_capture.Tie as tie
@@ -24,9 +24,9 @@ returns c =
     let s = c.before.before.before.before in
     let a = s.args in
     let same = to_z-of_z s.ranges.disparity in
-    let given = c.before.refusal-of.ensures ∙ ap (λ (z : ℤ). refusalOf (captureChecks a.capture.now a.reader z (length a.events.now))) same in
-    let x = read-refused a.capture.now a.reader a.disparity a.events.now _ given c.if1.true in
-    (ap (λ (z : ℤ). notReadCapture a.reader z c.before.refusal-of.result) same ∙ x.answers, x.leaves)
+    let given = c.before.refusal-of.ensures ∙ ap (λ (z : ℤ). refusal_of (capture_checks a.capture.now a.reader z (length a.events.now))) same in
+    let x = read_refused a.capture.now a.reader a.disparity a.events.now _ given c.if1.true in
+    (ap (λ (z : ℤ). not_read_capture a.reader z c.before.refusal-of.result) same ∙ x.answers, x.leaves)
 
 is-plus-requires : tie.Need-is-plus-requires
 is-plus-requires c κs = search rules
@@ -37,9 +37,9 @@ read-each-requires c κs =
     let a = s.args in
     let same = to_z-of_z s.ranges.disparity in
     let given = c.before.before.before.refusal-of.ensures
-    ∙ ap (λ (z : ℤ). refusalOf (captureChecks a.capture.now a.reader z (length a.events.now))) same in
-    let p = read-passed a.capture.now a.reader a.disparity a.events.now _ given c.before.before.if1.false in
-    (legal-size a.capture.now (true-T _ p.legality), p.fits, p.rule)
+    ∙ ap (λ (z : ℤ). refusal_of (capture_checks a.capture.now a.reader z (length a.events.now))) same in
+    let p = read_passed a.capture.now a.reader a.disparity a.events.now _ given c.before.before.if1.false in
+    (legal_size a.capture.now (true_t _ p.legality), p.fits, p.rule)
 
 mul-t12 : tie.Need-overflow-mul-t12
 mul-t12 c =
@@ -47,9 +47,9 @@ mul-t12 c =
     let a = s.args in
     let same = to_z-of_z s.ranges.disparity in
     let given = c.before.before.before.before.before.before.before.refusal-of.ensures
-    ∙ ap (λ (z : ℤ). refusalOf (captureChecks a.capture.now a.reader z (length a.events.now))) same in
-    let p = read-passed a.capture.now a.reader a.disparity a.events.now _ given c.before.before.before.before.before.before.if1.false in
-    let most = legal-size a.capture.now (true-T _ p.legality) in
+    ∙ ap (λ (z : ℤ). refusal_of (capture_checks a.capture.now a.reader z (length a.events.now))) same in
+    let p = read_passed a.capture.now a.reader a.disparity a.events.now _ given c.before.before.before.before.before.before.if1.false in
+    let most = legal_size a.capture.now (true_t _ p.legality) in
     omega arith
 
 disparity-of-requires : tie.Need-disparity-of-requires
@@ -67,12 +67,12 @@ returns-2 c =
     let a = s.args in
     let same = to_z-of_z s.ranges.disparity in
     let given = c.before.before.before.before.before.before.before.before.refusal-of.ensures
-    ∙ ap (λ (z : ℤ). refusalOf (captureChecks a.capture.now a.reader z (length a.events.now))) same in
+    ∙ ap (λ (z : ℤ). refusal_of (capture_checks a.capture.now a.reader z (length a.events.now))) same in
     is_read a.capture.now a.reader a.disparity a.events.now _ given
-    c.before.before.before.before.before.before.before.if1.false _ (sign.ensures ∙ ap isPlus same)
+    c.before.before.before.before.before.before.before.if1.false _ (sign.ensures ∙ ap is_plus same)
     _ _ _ each.ensures _ closing.ensures
 
-pub read-capture-spec : {M : Type 1} → statement M
-read-capture-spec =
+pub read_capture_spec : {M : Type 1} → statement M
+read_capture_spec =
     tie.close
     (tie.spec refusal-of-requires returns is-plus-requires read-each-requires mul-t12 disparity-of-requires same_length returns-2)

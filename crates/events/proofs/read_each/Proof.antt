@@ -5,18 +5,18 @@ use mathlib.Core.Bool.{xor}
 use Prim.Native.Nat.{ℕ, ◌-◌}
 use native.Mathlib.Omega.{arith}
 use lib.ListN.{length}
-use Rattle.laws.specs.Check.{overlay, checkBit, checkBits, lowestFirst, number_of, bits_of}
+use Rattle.laws.specs.Check.{overlay, check_bit, check_bits, lowest_first, number_of, bits_of}
 use Rattle.character_table.specs.Table.{table}
-use Rattle.crc.specs.Crc16.{crcFrom, entries}
-use Rattle.capture_rules.specs.Capture.{characterCount, charactersOf}
-use Rattle.capture_rules.proofs.Packing.{characters-length}
-use Rattle.events_rules.proofs.Runs.{Ran, ran-none, ran_then}
+use Rattle.crc.specs.Crc16.{crc_from, entries}
+use Rattle.capture_rules.specs.Capture.{character_count, characters_of}
+use Rattle.capture_rules.proofs.Packing.{characters_length}
+use Rattle.events_rules.proofs.Runs.{Ran, ran_none, ran_then}
 use Rattle.events.proofs.read_each.Statement.{statement}
 use Rattle.events.proofs.read_each.Tie as tie
 
 abbrev invariant-loop : tie.invariant-loop
 invariant-loop capture plus events₀ entries crcs n p₀ events p =
-    Ran (charactersOf capture) 0 plus p₀.reader events₀ p.at p.plus p.reader events
+    Ran (characters_of capture) 0 plus p₀.reader events₀ p.at p.plus p.reader events
 
 abbrev decreases-loop : tie.decreases-loop
 decreases-loop capture plus events₀ entries crcs n p₀ events p = n - p.at
@@ -28,10 +28,10 @@ loop-holds : tie.Need-loop-init invariant-loop decreases-loop
 loop-holds c =
     let s = c.before.before in
     let a = s.args in
-    ran-none (charactersOf a.capture.now) 0 a.plus a.reader a.events.now (omega arith) s.requires.2
+    ran_none (characters_of a.capture.now) 0 a.plus a.reader a.events.now (omega arith) s.requires.2
 
 read-some-requires : tie.Need-read-some-requires invariant-loop decreases-loop
-unfolding table entries crcFrom number_of checkBits checkBit overlay lowestFirst bits_of xor
+unfolding table entries crc_from number_of check_bits check_bit overlay lowest_first bits_of xor
 read-some-requires c κs =
     let l = c.before.before.before.before.before.loop in
     let s = c.before.before.before.before.before.before.before.before in
@@ -45,7 +45,7 @@ loop-again c =
     let some = c.before.before.read_Some in
     let l = c.before.before.before.before.before.before.before.before.loop in
     let s = c.before.before.before.before.before.before.before.before.before.before.before in
-    ran_then (charactersOf s.args.capture.now) l.invariant some.ensures.0
+    ran_then (characters_of s.args.capture.now) l.invariant some.ensures.0
 
 same_length : tie.Need-same-length invariant-loop decreases-loop
 same_length c =
@@ -57,14 +57,14 @@ returns c =
     let l = c.before.before.loop in
     let s = c.before.before.before.before.before in
     let a = s.args in
-    let long = characters-length a.capture.now in
+    let long = characters_length a.capture.now in
     let most = l.invariant.place in
-    let e : l.p.at ≡ characterCount (length a.capture.now) = omega arith in
-    subst (λ (k : ℕ). Ran (charactersOf a.capture.now) 0 a.plus a.reader a.events.now k l.p.plus l.p.reader l.events)
+    let e : l.p.at ≡ character_count (length a.capture.now) = omega arith in
+    subst (λ (k : ℕ). Ran (characters_of a.capture.now) 0 a.plus a.reader a.events.now k l.p.plus l.p.reader l.events)
     e l.invariant
 
-pub read-each-spec : {M : Type 1} → statement M
-read-each-spec =
+pub read_each_spec : {M : Type 1} → statement M
+read_each_spec =
     tie.close
     (tie.spec invariant-loop decreases-loop
     mul-n loop-holds read-some-requires loop-less loop-again same_length returns)

@@ -5,19 +5,19 @@ use Prim.Native.Nat.{ℕ, ◌<◌}
 use native.Mathlib.Omega.{arith}
 use borrow.Author.Rules.{rules}
 use lib.ListN.{get_or}
-use Rattle.laws.proofs.Groups.{getD-below}
-use Rattle.character_rules.specs.Disparity.{disparityOf}
+use Rattle.laws.proofs.Groups.{get_or_below}
+use Rattle.character_rules.specs.Disparity.{disparity_of}
 use Rattle.character_rules.specs.Reading.{reading}
 use Rattle.character_rules.specs.Results.{packed, unpacked}
-use Rattle.character_rules.proofs.Packed.{unpacked-reading}
-use Rattle.character_rules.proofs.RunLaws.{disparity-is}
-use Rattle.capture_rules.specs.Capture.{charactersOf}
-use Rattle.capture_rules.proofs.Packing.{characters-below, characters-length}
-use Rattle.packet_rules.specs.Answers.{Answer, stepSays}
+use Rattle.character_rules.proofs.Packed.{unpacked_reading}
+use Rattle.character_rules.proofs.RunLaws.{disparity_is}
+use Rattle.capture_rules.specs.Capture.{characters_of}
+use Rattle.capture_rules.proofs.Packing.{characters_below, characters_length}
+use Rattle.packet_rules.specs.Answers.{Answer, step_says}
 use Rattle.packet_rules.specs.Step.{step_of}
 use Rattle.packet_reader.proofs.Agree.{agree}
-use Rattle.events_rules.specs.Numbers.{packedEvent}
-use Rattle.events_rules.proofs.Runs.{ran-one}
+use Rattle.events_rules.specs.Numbers.{packed_event}
+use Rattle.events_rules.proofs.Runs.{ran_one}
 use Rattle.events.proofs.read_one.Statement.{statement}
 use Rattle.events.proofs.read_one.Tie as tie
 
@@ -28,7 +28,7 @@ look-up-requires : tie.Need-look-up-requires
 look-up-requires c κs =
     let character = c.character-in in
     let s = c.before.before.before.before in
-    let low = getD-below 1024 (charactersOf s.args.capture.now) (omega arith) (characters-below s.args.capture.now) s.args.from.at in
+    let low = get_or_below 1024 (characters_of s.args.capture.now) (omega arith) (characters_below s.args.capture.now) s.args.from.at in
     (s.requires.0, subst (λ (n : ℕ). n < 1024) (sym character.ensures) low)
 
 unpack-result-requires : tie.Need-unpack-result-requires
@@ -61,27 +61,27 @@ returns c =
     let character = c.before.before.before.before.before.character-in in
     let s = c.before.before.before.before.before.before.before.before.before in
     let a = s.args in
-    let cs = charactersOf a.capture.now in
+    let cs = characters_of a.capture.now in
     let i = a.from.at in
     let p = a.from.plus in
     let r = a.from.reader in
-    let low = getD-below 1024 (charactersOf s.args.capture.now) (omega arith) (characters-below s.args.capture.now) s.args.from.at in
-    let long = characters-length a.capture.now in
+    let low = get_or_below 1024 (characters_of s.args.capture.now) (omega arith) (characters_below s.args.capture.now) s.args.from.at in
+    let long = characters_length a.capture.now in
     let h = s.requires.2 in
     let f = s.requires.3 in
-    let is : found.result ≡ packed (reading (get_or cs i 0) (disparityOf p)) =
-    found.ensures ∙ ap (λ (k : ℕ). packed (reading k (disparityOf p))) character.ensures in
-    let shown = result.ensures ∙ ap unpacked is ∙ unpacked-reading (get_or cs i 0) (disparityOf p) (omega arith) (disparity-is p) in
-    let said = ap stepSays turned.ensures ∙ agree r result.result s.requires.4 ∙ ap (step_of r) shown in
-    let event = number.ensures ∙ ap (λ (x : Answer). packedEvent x.said) said in
+    let is : found.result ≡ packed (reading (get_or cs i 0) (disparity_of p)) =
+    found.ensures ∙ ap (λ (k : ℕ). packed (reading k (disparity_of p))) character.ensures in
+    let shown = result.ensures ∙ ap unpacked is ∙ unpacked_reading (get_or cs i 0) (disparity_of p) (omega arith) (disparity_is p) in
+    let said = ap step_says turned.ensures ∙ agree r result.result s.requires.4 ∙ ap (step_of r) shown in
+    let event = number.ensures ∙ ap (λ (x : Answer). packed_event x.said) said in
     let state = ap (λ (x : Answer). x.reader) said in (
-      ran-one cs i p r a.events.now found.result number.result turned.result.reader (omega arith) low (omega arith)
+      ran_one cs i p r a.events.now found.result number.result turned.result.reader (omega arith) low (omega arith)
           s.requires.4 is event state,
       refl,
     )
 
-pub read-one-spec : {M : Type 1} → statement M
-read-one-spec =
+pub read_one_spec : {M : Type 1} → statement M
+read_one_spec =
     tie.close
     (tie.spec
     character-in-requires look-up-requires unpack-result-requires advance-requires event-number-requires mul-events slice-write-events add-t14

@@ -2,7 +2,7 @@
 -- Assumes nothing.
 use native.Mathlib.Omega.{arith}
 use mathlib.Core.Path.{◌∙◌}
-use Rattle.capture_rules.specs.Capture.{charactersOf}
+use Rattle.capture_rules.specs.Capture.{characters_of}
 use Rattle.events_rules.proofs.Runs.{ran_then}
 use Rattle.events.proofs.read_some.Statement.{statement}
 use Rattle.events.proofs.read_some.Tie as tie
@@ -37,7 +37,7 @@ returns c =
     let s = c.before.before.before.before.before.before.before.before.before.before.before.before in
     let f = bytes.ensures.forward in
     let e = single.ensures.1 in
-    (ran_then (charactersOf s.args.capture.now) bytes.ensures single.ensures.0, omega arith)
+    (ran_then (characters_of s.args.capture.now) bytes.ensures single.ensures.0, omega arith)
 
 same-length-2 : tie.Need-same-length-2
 same-length-2 c =
@@ -49,8 +49,8 @@ returns-2 c =
     let bytes = c.before.before.before.before.user-bytes in
     (bytes.ensures, omega arith)
 
-pub read-some-spec : {M : Type 1} → statement M
-read-some-spec =
+pub read_some_spec : {M : Type 1} → statement M
+read_some_spec =
     tie.close
     (tie.spec
     mul-n user-bytes-requires read-one-requires same_length returns same-length-2 returns-2)

@@ -3,10 +3,10 @@
 use mathlib.Core.Path.{refl, sym, ap, ◌∙◌}
 use lib.ListN.{length}
 use Rattle.retry_rules.specs.declared.Receiver.{Receiver}
-use Rattle.retry_rules.specs.Arrival.{arrivalOf, arrivalOutput}
+use Rattle.retry_rules.specs.Arrival.{arrival_of, arrival_output}
 use Rattle.host_rules.specs.Numbers.{mark_of}
 use Rattle.host_calls.specs.ReceiverCalls.{Arrives}
-use Rattle.host_calls.proofs.ReceiverLaws.{arrival-refused, arrival-done}
+use Rattle.host_calls.proofs.ReceiverLaws.{arrival_refused, arrival-done}
 use borrow.Author.Rules.{rules}
 use Rattle.host_arrivals.proofs.buzz_receiver_arrival.Statement.{statement}
 use Rattle.host_arrivals.proofs.buzz_receiver_arrival.Tie as tie
@@ -38,11 +38,11 @@ returns c =
     } in
     let given = c.before.before.before.before.before.before.before.receiver-in.ensures in
     let h = c.before.before.before.before.before.arrival.ensures.0
-    ∙ ap (λ (s : Receiver). arrivalOf s a.number a.channel (mark_of a.bad) (length a.bytes.now) (mark_of a.room)
+    ∙ ap (λ (s : Receiver). arrival_of s a.number a.channel (mark_of a.bad) (length a.bytes.now) (mark_of a.room)
     (length a.output.now)) given in
     let output = c.before.before.before.before.before.arrival.ensures.1
-    ∙ ap (λ (s : Receiver). arrivalOutput s a.number a.channel a.bytes.now (mark_of a.room) a.output.now) given in
-    rw (arrival-refused a.number a.channel a.bad a.bytes.now a.room old _ h c.before.if1.true) (
+    ∙ ap (λ (s : Receiver). arrival_output s a.number a.channel a.bytes.now (mark_of a.room) a.output.now) given in
+    rw (arrival_refused a.number a.channel a.bad a.bytes.now a.room old _ h c.before.if1.true) (
       refl,
       refl,
       output,
@@ -93,10 +93,10 @@ returns-2 c =
     } in
     let given = c.before.before.before.before.before.before.before.before.before.before.before.before.before.before.receiver-in.ensures in
     let h = c.before.before.before.before.before.before.before.before.before.before.before.before.arrival.ensures.0
-    ∙ ap (λ (s : Receiver). arrivalOf s a.number a.channel (mark_of a.bad) (length a.bytes.now) (mark_of a.room)
+    ∙ ap (λ (s : Receiver). arrival_of s a.number a.channel (mark_of a.bad) (length a.bytes.now) (mark_of a.room)
     (length a.output.now)) given in
     let output = c.before.before.before.before.before.before.before.before.before.before.before.before.arrival.ensures.1
-    ∙ ap (λ (s : Receiver). arrivalOutput s a.number a.channel a.bytes.now (mark_of a.room) a.output.now) given in
+    ∙ ap (λ (s : Receiver). arrival_output s a.number a.channel a.bytes.now (mark_of a.room) a.output.now) given in
     let done = c.before.before.before.before.before.before.before.before.if1.false in
     rw (arrival-done a.number a.channel a.bad a.bytes.now a.room old _ h done) (
       sym done,
@@ -110,8 +110,8 @@ returns-2 c =
       refl,
     )
 
-pub buzz-receiver-arrival-spec : {M : Type 1} → statement M
-buzz-receiver-arrival-spec =
+pub buzz_receiver_arrival_spec : {M : Type 1} → statement M
+buzz_receiver_arrival_spec =
     tie.close
     (tie.spec
     receiver-in-requires

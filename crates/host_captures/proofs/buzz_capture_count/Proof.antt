@@ -2,7 +2,7 @@
 -- Assumes nothing.
 use mathlib.Core.Path.{refl, sym, ap, ◌∙◌}
 use Rattle.capture_rules.specs.Calls.{says}
-use Rattle.host_calls.proofs.CaptureLaws.{count-done, count-refused}
+use Rattle.host_calls.proofs.CaptureLaws.{count_done, count_refused}
 use borrow.Author.Rules.{rules}
 use Rattle.host_captures.proofs.buzz_capture_count.Statement.{statement}
 use Rattle.host_captures.proofs.buzz_capture_count.Tie as tie
@@ -22,15 +22,15 @@ cast-result c = search rules
 returns : tie.Need-returns
 returns c =
     let h = sym (ap says c.before.answer.given.1) ∙ c.before.before.before.character-count.ensures in
-    rw (count-done _ c.before.before.before.before.before.args.count.now _ h) (refl, refl)
+    rw (count_done _ c.before.before.before.before.before.args.count.now _ h) (refl, refl)
 
 returns-2 : tie.Need-returns-2
 returns-2 c =
     let h = sym (ap says c.before.answer2.given.1) ∙ c.before.before.before.character-count.ensures in
-    rw (count-refused _ c.before.before.before.before.before.args.count.now _ h) (refl, refl)
+    rw (count_refused _ c.before.before.before.before.before.args.count.now _ h) (refl, refl)
 
-pub buzz-capture-count-spec : {M : Type 1} → statement M
-buzz-capture-count-spec =
+pub buzz_capture_count_spec : {M : Type 1} → statement M
+buzz_capture_count_spec =
     tie.close
     (tie.spec
     character-count-requires

@@ -3,7 +3,7 @@
 use mathlib.Core.Path.{refl, sym, ap, ◌∙◌}
 use Rattle.capture_rules.specs.Calls.{says}
 use Rattle.host_calls.specs.CaptureCalls.{Packs}
-use Rattle.host_calls.proofs.CaptureLaws.{pack-done, pack-refused}
+use Rattle.host_calls.proofs.CaptureLaws.{pack_done, pack-refused}
 use borrow.Author.Rules.{rules}
 use Rattle.host_captures.proofs.buzz_pack.Statement.{statement}
 use Rattle.host_captures.proofs.buzz_pack.Tie as tie
@@ -28,7 +28,7 @@ returns c =
     let a = c.before.before.before.before.before.before.before.before.before.args in
     let old : Packs = record { capture = a.capture.now; bytes = a.bytes.now } in
     let h = sym (ap says c.before.answer.given.1) ∙ c.before.before.before.before.before.pack.ensures.0 in
-    rw (pack-done a.characters.now old _ h) (refl, c.before.before.before.before.before.pack.ensures.1, refl)
+    rw (pack_done a.characters.now old _ h) (refl, c.before.before.before.before.before.pack.ensures.1, refl)
 
 same-length-2 : tie.Need-same-length-2
 same-length-2 c = search rules
@@ -40,8 +40,8 @@ returns-2 c =
     let h = sym (ap says c.before.answer2.given.1) ∙ c.before.before.before.before.before.pack.ensures.0 in
     rw (pack-refused a.characters.now old _ h) (refl, c.before.before.before.before.before.pack.ensures.1, refl)
 
-pub buzz-pack-spec : {M : Type 1} → statement M
-buzz-pack-spec =
+pub buzz_pack_spec : {M : Type 1} → statement M
+buzz_pack_spec =
     tie.close
     (tie.spec
     pack-requires

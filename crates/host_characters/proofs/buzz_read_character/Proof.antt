@@ -1,11 +1,11 @@
 -- The answer taken apart: a symbol clean or at the wrong disparity, none, or a refusal, which leaves all as it stood.
 -- Assumes nothing.
 use mathlib.Core.Path.{refl, sym, ap, ◌∙◌}
-use Rattle.character_rules.specs.Answers.{readingSays}
+use Rattle.character_rules.specs.Answers.{reading_says}
 use Rattle.character_rules.specs.Reading.{reading}
 use Rattle.host_rules.proofs.Signed.{same}
 use Rattle.host_calls.specs.CharacterCalls.{Reads}
-use Rattle.host_calls.proofs.CharacterLaws.{read-clean, read-wrong, read-invalid, read-refused}
+use Rattle.host_calls.proofs.CharacterLaws.{read-clean, read-wrong, read-invalid, read_refused}
 use borrow.Author.Rules.{rules}
 use Rattle.host_characters.proofs.buzz_read_character.Statement.{statement}
 use Rattle.host_characters.proofs.buzz_read_character.Tie as tie
@@ -44,7 +44,7 @@ returns : tie.Need-returns
 returns c =
     let a = c.before.before.before.before.before.before.before.args in
     let old : Reads = record { disparity = a.disparity.now; violation = a.violation.now; byte = a.byte.now; control = a.control.now } in
-    let h = sym (ap readingSays c.before.before.before.answer.given.1) ∙ c.before.before.before.before.before.read.ensures
+    let h = sym (ap reading_says c.before.before.before.answer.given.1) ∙ c.before.before.before.before.before.read.ensures
     ∙ ap (reading a.character) (same a.disparity.now c.before.before.before.before.before.before.read-arg.given) in
     rw (read-clean _ old _ _ h) (refl, same _ c.before.before.known-told.given.1.0.1, refl, refl, c.mark-number.ensures)
 
@@ -52,7 +52,7 @@ returns-2 : tie.Need-returns-2
 returns-2 c =
     let a = c.before.before.before.before.before.before.before.args in
     let old : Reads = record { disparity = a.disparity.now; violation = a.violation.now; byte = a.byte.now; control = a.control.now } in
-    let h = sym (ap readingSays c.before.before.before.answer2.given.1) ∙ c.before.before.before.before.before.read.ensures
+    let h = sym (ap reading_says c.before.before.before.answer2.given.1) ∙ c.before.before.before.before.before.read.ensures
     ∙ ap (reading a.character) (same a.disparity.now c.before.before.before.before.before.before.read-arg.given) in
     rw (read-wrong _ old _ _ h) (refl, same _ c.before.before.known-told2.given.1.0.1, refl, refl, c.mark-number2.ensures)
 
@@ -60,7 +60,7 @@ returns-3 : tie.Need-returns-3
 returns-3 c =
     let a = c.before.before.before.before.before.args in
     let old : Reads = record { disparity = a.disparity.now; violation = a.violation.now; byte = a.byte.now; control = a.control.now } in
-    let h = sym (ap readingSays c.before.answer3.given.1) ∙ c.before.before.before.read.ensures
+    let h = sym (ap reading_says c.before.answer3.given.1) ∙ c.before.before.before.read.ensures
     ∙ ap (reading a.character) (same a.disparity.now c.before.before.before.before.read-arg.given) in
     rw (read-invalid _ old _ h) (refl, same _ c.known-told3.given.0.1, refl, refl, refl)
 
@@ -68,12 +68,12 @@ returns-4 : tie.Need-returns-4
 returns-4 c =
     let a = c.before.before.before.before.before.args in
     let old : Reads = record { disparity = a.disparity.now; violation = a.violation.now; byte = a.byte.now; control = a.control.now } in
-    let h = sym (ap readingSays c.before.answer4.given.1) ∙ c.before.before.before.read.ensures
+    let h = sym (ap reading_says c.before.answer4.given.1) ∙ c.before.before.before.read.ensures
     ∙ ap (reading a.character) (same a.disparity.now c.before.before.before.before.read-arg.given) in
-    rw (read-refused _ old _ h) (refl, refl, refl, refl, refl)
+    rw (read_refused _ old _ h) (refl, refl, refl, refl, refl)
 
-pub buzz-read-character-spec : {M : Type 1} → statement M
-buzz-read-character-spec =
+pub buzz_read_character_spec : {M : Type 1} → statement M
+buzz_read_character_spec =
     tie.close
     (tie.spec
     read-requires

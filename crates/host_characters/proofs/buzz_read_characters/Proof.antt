@@ -3,11 +3,11 @@
 use mathlib.Core.Path.{refl, sym, ap, ◌∙◌}
 use lib.IntN.{ℤ}
 use lib.ListN.{length}
-use Rattle.character_rules.specs.Answers.{runSays}
-use Rattle.character_rules.specs.Results.{runReading, runOutput}
+use Rattle.character_rules.specs.Answers.{run_says}
+use Rattle.character_rules.specs.Results.{run_reading, run_output}
 use Rattle.host_rules.proofs.Signed.{same}
 use Rattle.host_calls.specs.CharacterCalls.{ReadsRun}
-use Rattle.host_calls.proofs.CharacterLaws.{run-done, run-refused}
+use Rattle.host_calls.proofs.CharacterLaws.{run_done, run-refused}
 use borrow.Author.Rules.{rules}
 use Rattle.host_characters.proofs.buzz_read_characters.Statement.{statement}
 use Rattle.host_characters.proofs.buzz_read_characters.Tie as tie
@@ -32,10 +32,10 @@ returns c =
     let a = c.before.before.before.before.before.before.before.before.before.before.args in
     let old : ReadsRun = record { disparity = a.disparity.now; results = a.results.now } in
     let d = same a.disparity.now c.before.before.before.before.before.before.before.read-run-arg.given in
-    let h = sym (ap runSays c.before.answer.given.1) ∙ c.before.before.before.before.before.read-run.ensures.0
-    ∙ ap (λ (d : ℤ). runReading a.characters.now d (length a.results.now)) d in
-    let results = c.before.before.before.before.before.read-run.ensures.1 ∙ ap (λ (d : ℤ). runOutput a.characters.now d a.results.now) d in
-    rw (run-done _ old _ h) (refl, same _ c.known-told.given.0.1, results)
+    let h = sym (ap run_says c.before.answer.given.1) ∙ c.before.before.before.before.before.read-run.ensures.0
+    ∙ ap (λ (d : ℤ). run_reading a.characters.now d (length a.results.now)) d in
+    let results = c.before.before.before.before.before.read-run.ensures.1 ∙ ap (λ (d : ℤ). run_output a.characters.now d a.results.now) d in
+    rw (run_done _ old _ h) (refl, same _ c.known-told.given.0.1, results)
 
 same-length-2 : tie.Need-same-length-2
 same-length-2 c = search rules
@@ -45,13 +45,13 @@ returns-2 c =
     let a = c.before.before.before.before.before.before.before.before.before.before.args in
     let old : ReadsRun = record { disparity = a.disparity.now; results = a.results.now } in
     let d = same a.disparity.now c.before.before.before.before.before.before.before.read-run-arg.given in
-    let h = sym (ap runSays c.before.answer2.given.1) ∙ c.before.before.before.before.before.read-run.ensures.0
-    ∙ ap (λ (d : ℤ). runReading a.characters.now d (length a.results.now)) d in
-    let results = c.before.before.before.before.before.read-run.ensures.1 ∙ ap (λ (d : ℤ). runOutput a.characters.now d a.results.now) d in
+    let h = sym (ap run_says c.before.answer2.given.1) ∙ c.before.before.before.before.before.read-run.ensures.0
+    ∙ ap (λ (d : ℤ). run_reading a.characters.now d (length a.results.now)) d in
+    let results = c.before.before.before.before.before.read-run.ensures.1 ∙ ap (λ (d : ℤ). run_output a.characters.now d a.results.now) d in
     rw (run-refused _ old _ h) (refl, refl, results)
 
-pub buzz-read-characters-spec : {M : Type 1} → statement M
-buzz-read-characters-spec =
+pub buzz_read_characters_spec : {M : Type 1} → statement M
+buzz_read_characters_spec =
     tie.close
     (tie.spec
     read-run-requires

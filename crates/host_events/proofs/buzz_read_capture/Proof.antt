@@ -4,7 +4,7 @@ use mathlib.Core.Path.{refl, sym, ap, ◌∙◌}
 use lib.IntN.{ℤ}
 use lib.ListN.{length}
 use Rattle.host_rules.proofs.Signed.{same}
-use Rattle.host_calls.specs.EventCalls.{captureNumbers, eventsNumbers, ReadsCapture}
+use Rattle.host_calls.specs.EventCalls.{capture_numbers, events_numbers, ReadsCapture}
 use Rattle.host_calls.proofs.EventLaws.{capture-refused, capture-done}
 use borrow.Author.Rules.{rules}
 use Rattle.host_events.proofs.buzz_read_capture.Statement.{statement}
@@ -25,8 +25,8 @@ returns c =
     let old : ReadsCapture = record { reader = a.reader.now; disparity = a.disparity.now; events = a.events.now; count = a.count.now } in
     let d = same a.disparity.now c.before.before.before.before.before.before.before.read-arg2.given in
     let read = c.before.before.before.before.before.read.ensures in
-    let h = read.0 ∙ ap (λ (z : ℤ). captureNumbers a.capture.now a.reader.now z (length a.events.now)) d in
-    let events = read.1 ∙ ap (λ (z : ℤ). eventsNumbers a.capture.now a.reader.now z a.events.now) d in
+    let h = read.0 ∙ ap (λ (z : ℤ). capture_numbers a.capture.now a.reader.now z (length a.events.now)) d in
+    let events = read.1 ∙ ap (λ (z : ℤ). events_numbers a.capture.now a.reader.now z a.events.now) d in
     rw (capture-refused a.capture.now old _ h c.before.if1.true) (refl, refl, refl, events, refl)
 
 reader-bytes-requires : tie.Need-reader-bytes-requires
@@ -41,14 +41,14 @@ returns-2 c =
     let old : ReadsCapture = record { reader = a.reader.now; disparity = a.disparity.now; events = a.events.now; count = a.count.now } in
     let d = same a.disparity.now c.before.before.before.before.before.before.before.before.before.read-arg2.given in
     let read = c.before.before.before.before.before.before.before.read.ensures in
-    let h = read.0 ∙ ap (λ (z : ℤ). captureNumbers a.capture.now a.reader.now z (length a.events.now)) d in
-    let events = read.1 ∙ ap (λ (z : ℤ). eventsNumbers a.capture.now a.reader.now z a.events.now) d in
+    let h = read.0 ∙ ap (λ (z : ℤ). capture_numbers a.capture.now a.reader.now z (length a.events.now)) d in
+    let events = read.1 ∙ ap (λ (z : ℤ). events_numbers a.capture.now a.reader.now z a.events.now) d in
     let done = c.before.before.before.if1.false in
     rw (capture-done a.capture.now old _ h done)
     (sym done, c.before.reader-bytes.ensures, same _ c.struct_told.given.1.1.0.1, events, refl)
 
-pub buzz-read-capture-spec : {M : Type 1} → statement M
-buzz-read-capture-spec =
+pub buzz_read_capture_spec : {M : Type 1} → statement M
+buzz_read_capture_spec =
     tie.close
     (tie.spec
     read-requires

@@ -6,8 +6,8 @@ use lib.ListN.{length}
 use borrow.Author.Tests.{not-true, not-false}
 use mir.Facts.{to_z-of_z}
 use Rattle.packet_rules.specs.declared.Reader.{Reader}
-use Rattle.events_rules.specs.Events.{notReadCapture, captureRead, eventsLeft}
-use Rattle.host_calls.proofs.EventLaws.{bytes-illegal, bytes-no-reader, bytes_read}
+use Rattle.events_rules.specs.Events.{not_read_capture, capture_read, events_left}
+use Rattle.host_calls.proofs.EventLaws.{bytes_illegal, bytes_no_reader, bytes_read}
 use borrow.Author.Rules.{rules}
 use Rattle.host_events.proofs.read.Statement.{statement}
 use Rattle.host_events.proofs.read.Tie as tie
@@ -26,11 +26,11 @@ returns c =
     let s = c.before.before.before.before.before.before in
     let a = s.args in
     let illegal = sym c.before.before.is-legal.ensures ∙ not-true _ c.before.if1.true in
-    let x = bytes-illegal a.capture.now a.bytes a.disparity a.events.now illegal in
+    let x = bytes_illegal a.capture.now a.bytes a.disparity a.events.now illegal in
     let d = to_z-of_z s.ranges.disparity in
     let given = c.before.before.before.reader-in in (
-      c.not-read.ensures ∙ ap (λ (z : ℤ). notReadCapture given.result z 8) d
-          ∙ ap (λ (r : Reader). notReadCapture r a.disparity 8) given.ensures ∙ x.answers,
+      c.not-read.ensures ∙ ap (λ (z : ℤ). not_read_capture given.result z 8) d
+          ∙ ap (λ (r : Reader). not_read_capture r a.disparity 8) given.ensures ∙ x.answers,
       x.leaves,
     )
 
@@ -46,11 +46,11 @@ returns-2 c =
     let a = s.args in
     let legal = sym c.before.before.before.before.is-legal.ensures ∙ not-false _ c.before.before.before.if1.false in
     let none = sym c.before.before.is-reader.ensures ∙ not-true _ c.before.if2.true in
-    let x = bytes-no-reader a.capture.now a.bytes a.disparity a.events.now legal none in
+    let x = bytes_no_reader a.capture.now a.bytes a.disparity a.events.now legal none in
     let d = to_z-of_z s.ranges.disparity in
     let given = c.before.before.before.before.before.reader-in in (
-      c.not-read2.ensures ∙ ap (λ (z : ℤ). notReadCapture given.result z 1) d
-          ∙ ap (λ (r : Reader). notReadCapture r a.disparity 1) given.ensures ∙ x.answers,
+      c.not-read2.ensures ∙ ap (λ (z : ℤ). not_read_capture given.result z 1) d
+          ∙ ap (λ (r : Reader). not_read_capture r a.disparity 1) given.ensures ∙ x.answers,
       x.leaves,
     )
 
@@ -71,10 +71,10 @@ returns-3 c =
     let d = to_z-of_z s.ranges.disparity in
     let given = c.before.before.before.before.before.before.before.before.reader-in in
     let read = c.before.before.read-capture.ensures in
-    let answer = read.0 ∙ ap (λ (z : ℤ). captureRead a.capture.now given.result z (length a.events.now)) d
-    ∙ ap (λ (r : Reader). captureRead a.capture.now r a.disparity (length a.events.now)) given.ensures in
-    let left = read.1 ∙ ap (λ (z : ℤ). eventsLeft a.capture.now given.result z a.events.now) d
-    ∙ ap (λ (r : Reader). eventsLeft a.capture.now r a.disparity a.events.now) given.ensures in
+    let answer = read.0 ∙ ap (λ (z : ℤ). capture_read a.capture.now given.result z (length a.events.now)) d
+    ∙ ap (λ (r : Reader). capture_read a.capture.now r a.disparity (length a.events.now)) given.ensures in
+    let left = read.1 ∙ ap (λ (z : ℤ). events_left a.capture.now given.result z a.events.now) d
+    ∙ ap (λ (r : Reader). events_left a.capture.now r a.disparity a.events.now) given.ensures in
     (answer ∙ x.answers, left ∙ x.leaves)
 
 pub read_spec : {M : Type 1} → statement M

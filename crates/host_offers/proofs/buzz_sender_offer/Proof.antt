@@ -3,10 +3,10 @@
 use mathlib.Core.Path.{refl, sym, ap, ◌∙◌}
 use lib.ListN.{length}
 use Rattle.retry_rules.specs.declared.Sender.{Sender}
-use Rattle.retry_rules.specs.Offer.{offerOf, offerBuffers}
+use Rattle.retry_rules.specs.Offer.{offer_of, offer_buffers}
 use Rattle.host_rules.specs.Numbers.{mark_of}
 use Rattle.host_calls.specs.SenderCalls.{Offers}
-use Rattle.host_calls.proofs.SenderLaws.{offer-refused, offer-done}
+use Rattle.host_calls.proofs.SenderLaws.{offer_refused, offer-done}
 use borrow.Author.Rules.{rules}
 use Rattle.host_offers.proofs.buzz_sender_offer.Statement.{statement}
 use Rattle.host_offers.proofs.buzz_sender_offer.Tie as tie
@@ -29,10 +29,10 @@ returns c =
     let old : Offers = record { sender = a.sender.now; buffers = a.buffers.now; number = a.number.now } in
     let given = c.before.before.before.before.before.before.before.sender-in.ensures in
     let h = c.before.before.before.before.before.offer.ensures.0
-    ∙ ap (λ (s : Sender). offerOf s (length a.buffers.now) a.channel (mark_of a.bad) (length a.bytes.now)) given in
+    ∙ ap (λ (s : Sender). offer_of s (length a.buffers.now) a.channel (mark_of a.bad) (length a.bytes.now)) given in
     let buffers = c.before.before.before.before.before.offer.ensures.1
-    ∙ ap (λ (s : Sender). offerBuffers s a.buffers.now a.channel a.bytes.now) given in
-    rw (offer-refused a.channel a.bad a.bytes.now old _ h c.before.if1.true) (refl, refl, buffers, refl)
+    ∙ ap (λ (s : Sender). offer_buffers s a.buffers.now a.channel a.bytes.now) given in
+    rw (offer_refused a.channel a.bad a.bytes.now old _ h c.before.if1.true) (refl, refl, buffers, refl)
 
 sender-bytes-requires : tie.Need-sender-bytes-requires
 sender-bytes-requires c κs = search rules
@@ -49,14 +49,14 @@ returns-2 c =
     let old : Offers = record { sender = a.sender.now; buffers = a.buffers.now; number = a.number.now } in
     let given = c.before.before.before.before.before.before.before.before.before.sender-in.ensures in
     let h = c.before.before.before.before.before.before.before.offer.ensures.0
-    ∙ ap (λ (s : Sender). offerOf s (length a.buffers.now) a.channel (mark_of a.bad) (length a.bytes.now)) given in
+    ∙ ap (λ (s : Sender). offer_of s (length a.buffers.now) a.channel (mark_of a.bad) (length a.bytes.now)) given in
     let buffers = c.before.before.before.before.before.before.before.offer.ensures.1
-    ∙ ap (λ (s : Sender). offerBuffers s a.buffers.now a.channel a.bytes.now) given in
+    ∙ ap (λ (s : Sender). offer_buffers s a.buffers.now a.channel a.bytes.now) given in
     let done = c.before.before.before.if1.false in
     rw (offer-done a.channel a.bad a.bytes.now old _ h done) (sym done, c.before.sender-bytes.ensures, buffers, refl)
 
-pub buzz-sender-offer-spec : {M : Type 1} → statement M
-buzz-sender-offer-spec =
+pub buzz_sender_offer_spec : {M : Type 1} → statement M
+buzz_sender_offer_spec =
     tie.close
     (tie.spec
     sender-in-requires

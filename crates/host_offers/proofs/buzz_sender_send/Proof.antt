@@ -3,9 +3,9 @@
 use mathlib.Core.Path.{refl, sym, ap, ◌∙◌}
 use lib.ListN.{length}
 use Rattle.retry_rules.specs.declared.Sender.{Sender}
-use Rattle.retry_rules.specs.Send.{sendOf, sendOutput}
+use Rattle.retry_rules.specs.Send.{send_of, send_output}
 use Rattle.host_calls.specs.SenderCalls.{Sends}
-use Rattle.host_calls.proofs.SenderLaws.{send-refused, send-done}
+use Rattle.host_calls.proofs.SenderLaws.{send_refused, send_done}
 use borrow.Author.Rules.{rules}
 use Rattle.host_offers.proofs.buzz_sender_send.Statement.{statement}
 use Rattle.host_offers.proofs.buzz_sender_send.Tie as tie
@@ -35,9 +35,9 @@ returns c =
       size = a.bytes.now;
     } in
     let given = c.before.before.before.before.before.before.before.sender-in.ensures in
-    let h = c.before.before.before.before.before.send.ensures.0 ∙ ap (λ (s : Sender). sendOf s (length a.buffers.now) (length a.output.now)) given in
-    let output = c.before.before.before.before.before.send.ensures.1 ∙ ap (λ (s : Sender). sendOutput s a.buffers.now a.output.now) given in
-    rw (send-refused a.buffers.now old _ h c.before.if1.true) (refl, refl, output, refl, refl, refl, refl, refl)
+    let h = c.before.before.before.before.before.send.ensures.0 ∙ ap (λ (s : Sender). send_of s (length a.buffers.now) (length a.output.now)) given in
+    let output = c.before.before.before.before.before.send.ensures.1 ∙ ap (λ (s : Sender). send_output s a.buffers.now a.output.now) given in
+    rw (send_refused a.buffers.now old _ h c.before.if1.true) (refl, refl, output, refl, refl, refl, refl, refl)
 
 sender-bytes-requires : tie.Need-sender-bytes-requires
 sender-bytes-requires c κs = search rules
@@ -74,11 +74,11 @@ returns-2 c =
     } in
     let given = c.before.before.before.before.before.before.before.before.before.before.before.before.before.sender-in.ensures in
     let h = c.before.before.before.before.before.before.before.before.before.before.before.send.ensures.0
-    ∙ ap (λ (s : Sender). sendOf s (length a.buffers.now) (length a.output.now)) given in
+    ∙ ap (λ (s : Sender). send_of s (length a.buffers.now) (length a.output.now)) given in
     let output = c.before.before.before.before.before.before.before.before.before.before.before.send.ensures.1
-    ∙ ap (λ (s : Sender). sendOutput s a.buffers.now a.output.now) given in
+    ∙ ap (λ (s : Sender). send_output s a.buffers.now a.output.now) given in
     let done = c.before.before.before.before.before.before.before.if1.false in
-    rw (send-done a.buffers.now old _ h done) (
+    rw (send_done a.buffers.now old _ h done) (
       sym done,
       c.before.before.before.before.before.sender-bytes.ensures,
       output,
@@ -89,8 +89,8 @@ returns-2 c =
       refl,
     )
 
-pub buzz-sender-send-spec : {M : Type 1} → statement M
-buzz-sender-send-spec =
+pub buzz_sender_send_spec : {M : Type 1} → statement M
+buzz_sender_send_spec =
     tie.close
     (tie.spec
     sender-in-requires

@@ -1,8 +1,8 @@
 -- The answer taken apart: a reader's bytes, or a refusal.
 -- Assumes nothing.
 use mathlib.Core.Path.{refl, sym, ap, ◌∙◌}
-use Rattle.packet_rules.specs.Answers.{freshSays}
-use Rattle.host_calls.proofs.PacketLaws.{begin-done, begin-refused}
+use Rattle.packet_rules.specs.Answers.{fresh_says}
+use Rattle.host_calls.proofs.PacketLaws.{begin_done, begin_refused}
 use borrow.Author.Rules.{rules}
 use Rattle.host_packet_reader.proofs.buzz_reader_fresh.Statement.{statement}
 use Rattle.host_packet_reader.proofs.buzz_reader_fresh.Tie as tie
@@ -24,18 +24,18 @@ cast-result c = search rules
 
 returns : tie.Need-returns
 returns c =
-    let h = sym (ap freshSays c.before.before.answer.given.1) ∙ c.before.before.before.before.fresh.ensures in
+    let h = sym (ap fresh_says c.before.before.answer.given.1) ∙ c.before.before.before.before.fresh.ensures in
     let a = c.before.before.before.before.before.args in
-    rw (begin-done a.size a.reader.now _ h) (refl, c.reader-bytes.ensures)
+    rw (begin_done a.size a.reader.now _ h) (refl, c.reader-bytes.ensures)
 
 returns-2 : tie.Need-returns-2
 returns-2 c =
-    let h = sym (ap freshSays c.before.answer2.given.1) ∙ c.before.before.before.fresh.ensures in
+    let h = sym (ap fresh_says c.before.answer2.given.1) ∙ c.before.before.before.fresh.ensures in
     let a = c.before.before.before.before.args in
-    rw (begin-refused a.size a.reader.now _ h) (refl, refl)
+    rw (begin_refused a.size a.reader.now _ h) (refl, refl)
 
-pub buzz-reader-fresh-spec : {M : Type 1} → statement M
-buzz-reader-fresh-spec =
+pub buzz_reader_fresh_spec : {M : Type 1} → statement M
+buzz_reader_fresh_spec =
     tie.close
     (tie.spec
     fresh-requires

@@ -2,7 +2,7 @@
 -- Assumes nothing.
 use mathlib.Core.Path.{refl, sym}
 use Rattle.host_calls.specs.PacketCalls.{Steps}
-use Rattle.host_calls.proofs.PacketLaws.{step-refused, step-done}
+use Rattle.host_calls.proofs.PacketLaws.{step_refused, step-done}
 use borrow.Author.Rules.{rules}
 use Rattle.host_packet_reader.proofs.buzz_reader_step.Statement.{statement}
 use Rattle.host_packet_reader.proofs.buzz_reader_step.Tie as tie
@@ -18,7 +18,7 @@ returns c =
     let a = c.before.before.before.before.before.args in
     let old : Steps = record { reader = a.reader.now; event = a.event.now; value = a.value.now; number = a.number.now } in
     let h = c.before.before.before.step.ensures in
-    rw (step-refused a.violation a.byte a.control old _ h _ c.before.before.told.ensures c.if1.true) (refl, refl, refl, refl, refl)
+    rw (step_refused a.violation a.byte a.control old _ h _ c.before.before.told.ensures c.if1.true) (refl, refl, refl, refl, refl)
 
 reader-bytes-requires : tie.Need-reader-bytes-requires
 reader-bytes-requires c κs = search rules
@@ -37,6 +37,6 @@ returns-2 c =
       refl,
     )
 
-pub buzz-reader-step-spec : {M : Type 1} → statement M
-buzz-reader-step-spec =
+pub buzz_reader_step_spec : {M : Type 1} → statement M
+buzz_reader_step_spec =
     tie.close (tie.spec step-requires told-requires returns reader-bytes-requires returns-2)

@@ -1,6 +1,6 @@
 -- Each part from its bytes.
 -- Assumes nothing.
-use Rattle.host_rules.specs.ReaderBytes.{readerIn}
+use Rattle.host_rules.specs.ReaderBytes.{reader_in}
 use borrow.Author.Rules.{rules}
 use Rattle.host_reader.proofs.reader_in.Statement.{statement}
 use Rattle.host_reader.proofs.reader_in.Tie as tie
@@ -72,11 +72,11 @@ phase-of-requires : tie.Need-phase-of-requires
 phase-of-requires c κs = search rules
 
 returns : tie.Need-returns
-unfolding readerIn
+unfolding reader_in
 returns c =
     simp (
       c.phase-of.ensures,
-      c.before.priority-of.ensures,
+      c.before.priority_of_lem.ensures,
       c.before.before.two4.ensures,
       c.before.before.before.two3.ensures,
       c.before.before.before.before.packet-of.ensures,
@@ -84,8 +84,8 @@ returns c =
       c.before.before.before.before.before.before.two.ensures,
     )
 
-pub reader-in-spec : {M : Type 1} → statement M
-reader-in-spec =
+pub reader_in_spec : {M : Type 1} → statement M
+reader_in_spec =
     tie.close
     (tie.spec
     array-read-two

@@ -1,6 +1,6 @@
 -- Each part's bytes.
 -- Assumes nothing.
-use Rattle.host_rules.specs.ReaderBytes.{readerBytes}
+use Rattle.host_rules.specs.ReaderBytes.{reader_bytes}
 use borrow.Author.Rules.{rules}
 use Rattle.host_reader_bytes.proofs.reader_bytes.Statement.{statement}
 use Rattle.host_reader_bytes.proofs.reader_bytes.Tie as tie
@@ -60,7 +60,7 @@ phase-second-requires : tie.Need-phase-second-requires
 phase-second-requires c κs = search rules
 
 returns : tie.Need-returns
-unfolding readerBytes
+unfolding reader_bytes
 returns c =
     simp (
       c.phase-second.ensures,
@@ -75,8 +75,8 @@ returns c =
       c.before.before.before.before.before.before.before.before.before.packet-register.ensures,
     )
 
-pub reader-bytes-spec : {M : Type 1} → statement M
-reader-bytes-spec =
+pub reader_bytes_spec : {M : Type 1} → statement M
+reader_bytes_spec =
     tie.close
     (tie.spec
     packet-register-requires

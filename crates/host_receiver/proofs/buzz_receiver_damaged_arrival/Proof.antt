@@ -1,9 +1,9 @@
 -- A refusal leaves all as it stood; else the new state's bytes, and what the answer says.
 -- Assumes nothing.
 use mathlib.Core.Path.{refl, sym, ap, ◌∙◌}
-use Rattle.retry_rules.specs.Arrival.{damagedArrivalOf}
+use Rattle.retry_rules.specs.Arrival.{damaged_arrival_of}
 use Rattle.host_calls.specs.ReceiverCalls.{ArrivesDamaged}
-use Rattle.host_calls.proofs.ReceiverLaws.{damaged-refused, damaged-done}
+use Rattle.host_calls.proofs.ReceiverLaws.{damaged_refused, damaged_done}
 use borrow.Author.Rules.{rules}
 use Rattle.host_receiver.proofs.buzz_receiver_damaged_arrival.Statement.{statement}
 use Rattle.host_receiver.proofs.buzz_receiver_damaged_arrival.Tie as tie
@@ -19,10 +19,10 @@ cast-result c = search rules
 
 returns : tie.Need-returns
 returns c =
-    let h = c.before.before.before.damaged-arrival.ensures ∙ ap damagedArrivalOf c.before.before.before.before.receiver-in.ensures in
+    let h = c.before.before.before.damaged_arrival.ensures ∙ ap damaged_arrival_of c.before.before.before.before.receiver-in.ensures in
     let a = c.before.before.before.before.before.before.args in
     let old : ArrivesDamaged = record { receiver = a.receiver.now; nack = a.nack.now; reply = a.reply.now } in
-    rw (damaged-refused old _ h c.before.if1.true) (refl, refl, refl, refl)
+    rw (damaged_refused old _ h c.before.if1.true) (refl, refl, refl, refl)
 
 receiver-bytes-requires : tie.Need-receiver-bytes-requires
 receiver-bytes-requires c κs = search rules
@@ -35,19 +35,19 @@ cast-reply c = search rules
 
 returns-2 : tie.Need-returns-2
 returns-2 c =
-    let h = c.before.before.before.before.before.before.damaged-arrival.ensures
-    ∙ ap damagedArrivalOf c.before.before.before.before.before.before.before.receiver-in.ensures in
+    let h = c.before.before.before.before.before.before.damaged_arrival.ensures
+    ∙ ap damaged_arrival_of c.before.before.before.before.before.before.before.receiver-in.ensures in
     let a = c.before.before.before.before.before.before.before.before.before.args in
     let old : ArrivesDamaged = record { receiver = a.receiver.now; nack = a.nack.now; reply = a.reply.now } in
-    rw (damaged-done old _ h c.before.before.before.before.if1.false) (
+    rw (damaged_done old _ h c.before.before.before.before.if1.false) (
       sym c.before.before.before.before.if1.false,
       c.before.before.receiver-bytes.ensures,
       c.before.mark-number.ensures,
       refl,
     )
 
-pub buzz-receiver-damaged-arrival-spec : {M : Type 1} → statement M
-buzz-receiver-damaged-arrival-spec =
+pub buzz_receiver_damaged_arrival_spec : {M : Type 1} → statement M
+buzz_receiver_damaged_arrival_spec =
     tie.close
     (tie.spec
     receiver-in-requires

@@ -1,7 +1,7 @@
 -- Byte by byte.
 -- Assumes nothing.
 use mathlib.Core.Path.{refl}
-use Rattle.host_retry_rules.specs.ReceiverBytes.{receiverBytes}
+use Rattle.host_retry_rules.specs.ReceiverBytes.{receiver_bytes}
 use borrow.Author.Rules.{rules}
 use Rattle.host_receiver_bytes.proofs.receiver_bytes.Statement.{statement}
 use Rattle.host_receiver_bytes.proofs.receiver_bytes.Tie as tie
@@ -13,8 +13,8 @@ cast-t6 : tie.Need-overflow-cast-t6
 cast-t6 c = search rules
 
 returns : tie.Need-returns
-unfolding receiverBytes
+unfolding receiver_bytes
 returns c = refl
 
-pub receiver-bytes-spec : {M : Type 1} → statement M
-receiver-bytes-spec = tie.close (tie.spec cast-t4 cast-t6 returns)
+pub receiver_bytes_spec : {M : Type 1} → statement M
+receiver_bytes_spec = tie.close (tie.spec cast-t4 cast-t6 returns)

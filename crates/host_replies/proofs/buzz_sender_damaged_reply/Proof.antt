@@ -2,8 +2,8 @@
 -- Assumes nothing.
 use mathlib.Core.Path.{refl, sym, ap, ◌∙◌}
 use Rattle.retry_rules.specs.declared.Sender.{Sender}
-use Rattle.retry_rules.specs.Reply.{damagedReplyOf}
-use Rattle.host_calls.proofs.SenderLaws.{damaged-refused, damaged-done}
+use Rattle.retry_rules.specs.Reply.{damaged_reply_of}
+use Rattle.host_calls.proofs.SenderLaws.{damaged_refused, damaged_done}
 use borrow.Author.Rules.{rules}
 use Rattle.host_replies.proofs.buzz_sender_damaged_reply.Statement.{statement}
 use Rattle.host_replies.proofs.buzz_sender_damaged_reply.Tie as tie
@@ -20,8 +20,8 @@ cast-result c = search rules
 returns : tie.Need-returns
 returns c =
     let a = c.before.before.before.before.before.before.args in
-    let h = c.before.before.before.damaged-reply.ensures ∙ ap (λ (s : Sender). damagedReplyOf s) c.before.before.before.before.sender-in.ensures in
-    rw (damaged-refused a.sender.now _ h c.before.if1.true) (refl, refl)
+    let h = c.before.before.before.damaged_reply.ensures ∙ ap (λ (s : Sender). damaged_reply_of s) c.before.before.before.before.sender-in.ensures in
+    rw (damaged_refused a.sender.now _ h c.before.if1.true) (refl, refl)
 
 sender-bytes-requires : tie.Need-sender-bytes-requires
 sender-bytes-requires c κs = search rules
@@ -29,12 +29,12 @@ sender-bytes-requires c κs = search rules
 returns-2 : tie.Need-returns-2
 returns-2 c =
     let a = c.before.before.before.before.before.before.before.args in
-    let h = c.before.before.before.before.damaged-reply.ensures
-    ∙ ap (λ (s : Sender). damagedReplyOf s) c.before.before.before.before.before.sender-in.ensures in
-    rw (damaged-done a.sender.now _ h c.before.before.if1.false) (sym c.before.before.if1.false, c.sender-bytes.ensures)
+    let h = c.before.before.before.before.damaged_reply.ensures
+    ∙ ap (λ (s : Sender). damaged_reply_of s) c.before.before.before.before.before.sender-in.ensures in
+    rw (damaged_done a.sender.now _ h c.before.before.if1.false) (sym c.before.before.if1.false, c.sender-bytes.ensures)
 
-pub buzz-sender-damaged-reply-spec : {M : Type 1} → statement M
-buzz-sender-damaged-reply-spec =
+pub buzz_sender_damaged_reply_spec : {M : Type 1} → statement M
+buzz_sender_damaged_reply_spec =
     tie.close
     (tie.spec
     sender-in-requires

@@ -2,9 +2,9 @@
 -- Assumes nothing.
 use mathlib.Core.Path.{refl, sym, ap, ◌∙◌}
 use Rattle.retry_rules.specs.declared.Sender.{Sender}
-use Rattle.retry_rules.specs.Reply.{replyOf}
+use Rattle.retry_rules.specs.Reply.{reply_of}
 use Rattle.host_rules.specs.Numbers.{mark_of}
-use Rattle.host_calls.proofs.SenderLaws.{reply-refused, reply-done}
+use Rattle.host_calls.proofs.SenderLaws.{reply_refused, reply_done}
 use borrow.Author.Rules.{rules}
 use Rattle.host_replies.proofs.buzz_sender_reply.Statement.{statement}
 use Rattle.host_replies.proofs.buzz_sender_reply.Tie as tie
@@ -22,8 +22,8 @@ returns : tie.Need-returns
 returns c =
     let a = c.before.before.before.before.before.before.args in
     let h = c.before.before.before.reply.ensures
-    ∙ ap (λ (s : Sender). replyOf s (mark_of a.nack) a.number) c.before.before.before.before.sender-in.ensures in
-    rw (reply-refused a.nack a.number a.sender.now _ h c.before.if1.true) (refl, refl)
+    ∙ ap (λ (s : Sender). reply_of s (mark_of a.nack) a.number) c.before.before.before.before.sender-in.ensures in
+    rw (reply_refused a.nack a.number a.sender.now _ h c.before.if1.true) (refl, refl)
 
 sender-bytes-requires : tie.Need-sender-bytes-requires
 sender-bytes-requires c κs = search rules
@@ -32,11 +32,11 @@ returns-2 : tie.Need-returns-2
 returns-2 c =
     let a = c.before.before.before.before.before.before.before.args in
     let h = c.before.before.before.before.reply.ensures
-    ∙ ap (λ (s : Sender). replyOf s (mark_of a.nack) a.number) c.before.before.before.before.before.sender-in.ensures in
-    rw (reply-done a.nack a.number a.sender.now _ h c.before.before.if1.false) (sym c.before.before.if1.false, c.sender-bytes.ensures)
+    ∙ ap (λ (s : Sender). reply_of s (mark_of a.nack) a.number) c.before.before.before.before.before.sender-in.ensures in
+    rw (reply_done a.nack a.number a.sender.now _ h c.before.before.if1.false) (sym c.before.before.if1.false, c.sender-bytes.ensures)
 
-pub buzz-sender-reply-spec : {M : Type 1} → statement M
-buzz-sender-reply-spec =
+pub buzz_sender_reply_spec : {M : Type 1} → statement M
+buzz_sender_reply_spec =
     tie.close
     (tie.spec
     sender-in-requires

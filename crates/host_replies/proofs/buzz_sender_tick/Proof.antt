@@ -1,9 +1,9 @@
 -- A refusal leaves all as it stood; else the new state's bytes, and what the answer says.
 -- Assumes nothing.
 use mathlib.Core.Path.{refl, sym, ap, ◌∙◌}
-use Rattle.retry_rules.specs.Tick.{tickOf}
+use Rattle.retry_rules.specs.Tick.{tick_of}
 use Rattle.host_calls.specs.SenderCalls.{Ticks}
-use Rattle.host_calls.proofs.SenderLaws.{tick-refused, tick-done}
+use Rattle.host_calls.proofs.SenderLaws.{tick_refused, tick-done}
 use borrow.Author.Rules.{rules}
 use Rattle.host_replies.proofs.buzz_sender_tick.Statement.{statement}
 use Rattle.host_replies.proofs.buzz_sender_tick.Tie as tie
@@ -21,8 +21,8 @@ returns : tie.Need-returns
 returns c =
     let a = c.before.before.before.before.before.before.args in
     let old : Ticks = record { sender = a.sender.now; fell = a.fell.now } in
-    let h = c.before.before.before.tick.ensures ∙ ap tickOf c.before.before.before.before.sender-in.ensures in
-    rw (tick-refused old _ h c.before.if1.true) (refl, refl, refl)
+    let h = c.before.before.before.tick.ensures ∙ ap tick_of c.before.before.before.before.sender-in.ensures in
+    rw (tick_refused old _ h c.before.if1.true) (refl, refl, refl)
 
 sender-bytes-requires : tie.Need-sender-bytes-requires
 sender-bytes-requires c κs = search rules
@@ -34,15 +34,15 @@ returns-2 : tie.Need-returns-2
 returns-2 c =
     let a = c.before.before.before.before.before.before.before.before.args in
     let old : Ticks = record { sender = a.sender.now; fell = a.fell.now } in
-    let h = c.before.before.before.before.before.tick.ensures ∙ ap tickOf c.before.before.before.before.before.before.sender-in.ensures in
+    let h = c.before.before.before.before.before.tick.ensures ∙ ap tick_of c.before.before.before.before.before.before.sender-in.ensures in
     rw (tick-done old _ h c.before.before.before.if1.false) (
       sym c.before.before.before.if1.false,
       c.before.sender-bytes.ensures,
       c.mark-number.ensures,
     )
 
-pub buzz-sender-tick-spec : {M : Type 1} → statement M
-buzz-sender-tick-spec =
+pub buzz_sender_tick_spec : {M : Type 1} → statement M
+buzz_sender_tick_spec =
     tie.close
     (tie.spec
     sender-in-requires

@@ -1,7 +1,7 @@
 -- Byte by byte.
 -- Assumes nothing.
 use mathlib.Core.Path.{refl}
-use Rattle.host_retry_rules.specs.SenderBytes.{channelsIn}
+use Rattle.host_retry_rules.specs.SenderBytes.{channels_in}
 use borrow.Author.Rules.{rules}
 use Rattle.host_retry.proofs.channels_in.Statement.{statement}
 use Rattle.host_retry.proofs.channels_in.Tie as tie
@@ -31,11 +31,11 @@ array-read-t26 : tie.Need-array-read-t26
 array-read-t26 c = search rules
 
 returns : tie.Need-returns
-unfolding channelsIn
+unfolding channels_in
 returns c = refl
 
-pub channels-in-spec : {M : Type 1} → statement M
-channels-in-spec =
+pub channels_in_spec : {M : Type 1} → statement M
+channels_in_spec =
     tie.close
     (tie.spec
     array-read-t5

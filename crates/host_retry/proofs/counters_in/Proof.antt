@@ -1,6 +1,6 @@
 -- Each number from its bytes.
 -- Assumes nothing.
-use Rattle.host_retry_rules.specs.SenderBytes.{countersIn}
+use Rattle.host_retry_rules.specs.SenderBytes.{counters_in}
 use borrow.Author.Rules.{rules}
 use Rattle.host_retry.proofs.counters_in.Statement.{statement}
 use Rattle.host_retry.proofs.counters_in.Tie as tie
@@ -54,11 +54,11 @@ array-read-t38 : tie.Need-array-read-t38
 array-read-t38 c = search rules
 
 returns : tie.Need-returns
-unfolding countersIn
+unfolding counters_in
 returns c = simp (c.before.before.two.ensures, c.before.two2.ensures, c.two3.ensures)
 
-pub counters-in-spec : {M : Type 1} → statement M
-counters-in-spec =
+pub counters_in_spec : {M : Type 1} → statement M
+counters_in_spec =
     tie.close
     (tie.spec
     array-read-two

@@ -1,6 +1,6 @@
 -- Each length from its two bytes.
 -- Assumes nothing.
-use Rattle.host_retry_rules.specs.SenderBytes.{lengthsIn}
+use Rattle.host_retry_rules.specs.SenderBytes.{lengths_in}
 use borrow.Author.Rules.{rules}
 use Rattle.host_retry.proofs.lengths_in.Statement.{statement}
 use Rattle.host_retry.proofs.lengths_in.Tie as tie
@@ -78,7 +78,7 @@ two-requires-8 : tie.Need-two-requires-8
 two-requires-8 c κs = search rules
 
 returns : tie.Need-returns
-unfolding lengthsIn
+unfolding lengths_in
 returns c =
     simp (
       c.before.before.before.before.before.before.before.two.ensures,
@@ -91,8 +91,8 @@ returns c =
       c.two8.ensures,
     )
 
-pub lengths-in-spec : {M : Type 1} → statement M
-lengths-in-spec =
+pub lengths_in_spec : {M : Type 1} → statement M
+lengths_in_spec =
     tie.close
     (tie.spec
     array-read-two

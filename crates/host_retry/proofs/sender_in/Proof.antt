@@ -1,6 +1,6 @@
 -- Each part from its bytes.
 -- Assumes nothing.
-use Rattle.host_retry_rules.specs.SenderBytes.{senderIn}
+use Rattle.host_retry_rules.specs.SenderBytes.{sender_in}
 use borrow.Author.Rules.{rules}
 use Rattle.host_retry.proofs.sender_in.Statement.{statement}
 use Rattle.host_retry.proofs.sender_in.Tie as tie
@@ -21,11 +21,11 @@ marks-of-requires : tie.Need-marks-of-requires
 marks-of-requires c κs = search rules
 
 returns : tie.Need-returns
-unfolding senderIn
+unfolding sender_in
 returns c = simp (c.before.before.before.counters-in.ensures, c.before.before.lengths-in.ensures, c.before.channels-in.ensures, c.marks-of.ensures)
 
-pub sender-in-spec : {M : Type 1} → statement M
-sender-in-spec =
+pub sender_in_spec : {M : Type 1} → statement M
+sender_in_spec =
     tie.close
     (tie.spec
     counters-in-requires

@@ -105,8 +105,8 @@ returns c =
     (next c.before.before.before.mark-number5.ensures.0
     (next c.before.before.mark-number6.ensures.0 (next c.before.mark-number7.ensures.0 (last c.mark-number8.ensures.0)))))))
 
-pub mask-of-spec : {M : Type 1} → statement M
-mask-of-spec =
+pub mask_of_spec : {M : Type 1} → statement M
+mask_of_spec =
     tie.close
     (tie.spec
     array-read-mark-number

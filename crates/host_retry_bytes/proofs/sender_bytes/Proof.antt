@@ -159,8 +159,8 @@ returns c =
     c.high8.ensures
     c.before.before.before.before.before.before.before.before.before.before.before.before.before.before.mask-of.ensures
 
-pub sender-bytes-spec : {M : Type 1} → statement M
-sender-bytes-spec =
+pub sender_bytes_spec : {M : Type 1} → statement M
+sender_bytes_spec =
     tie.close
     (tie.spec
     mask-of-requires

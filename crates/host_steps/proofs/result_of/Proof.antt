@@ -17,5 +17,5 @@ returns-3 : tie.Need-returns-3
 unfolding result_of
 returns-3 c = simp (ne_eqb _ _ c.if2.false, ne_eqb _ _ c.before.if1.false)
 
-pub result-of-spec : {M : Type 1} → statement M
-result-of-spec = tie.close (tie.spec returns returns-2 returns-3)
+pub result_of_spec : {M : Type 1} → statement M
+result_of_spec = tie.close (tie.spec returns returns-2 returns-3)

@@ -5,9 +5,9 @@ use borrow.Author.Tests.{not-true, not-false}
 use lib.IntN.{negsuc}
 use Rattle.packet_rules.specs.declared.Reader.{Reader}
 use Rattle.character_rules.specs.Answers.{invalid}
-use Rattle.packet_rules.specs.Step.{refusedStep, step_of}
+use Rattle.packet_rules.specs.Step.{refused_step, step_of}
 use Rattle.host_rules.specs.Stepping.{result_of}
-use Rattle.host_rules.proofs.Stepping.{step-no-reader, step-no-violation, step-invalid, step-no-byte, step-done}
+use Rattle.host_rules.proofs.Stepping.{step_no_reader, step_no_violation, step_invalid, step-no-byte, step-done}
 use borrow.Author.Rules.{rules}
 use Rattle.host_steps.proofs.step.Statement.{statement}
 use Rattle.host_steps.proofs.step.Tie as tie
@@ -24,7 +24,7 @@ refused-requires c κs = search rules
 returns : tie.Need-returns
 returns c =
     let a = c.before.before.before.before.args in
-    c.refused.ensures ∙ ap (λ (r : Reader). refusedStep r 1) c.before.before.before.reader-in.ensures ∙ sym (step-no-reader a.bytes
+    c.refused.ensures ∙ ap (λ (r : Reader). refused_step r 1) c.before.before.before.reader-in.ensures ∙ sym (step_no_reader a.bytes
     a.violation a.byte a.control (sym c.before.before.is-reader.ensures ∙ not-true _ c.before.if1.true))
 
 refused-requires-2 : tie.Need-refused-requires-2
@@ -33,7 +33,7 @@ refused-requires-2 c κs = search rules
 returns-2 : tie.Need-returns-2
 returns-2 c =
     let a = c.before.before.before.before.before.args in
-    c.refused2.ensures ∙ ap (λ (r : Reader). refusedStep r 1) c.before.before.before.before.reader-in.ensures ∙ sym (step-no-violation
+    c.refused2.ensures ∙ ap (λ (r : Reader). refused_step r 1) c.before.before.before.before.reader-in.ensures ∙ sym (step_no_violation
     a.bytes a.violation a.byte a.control
     (sym c.before.before.before.is-reader.ensures ∙ not-false _ c.before.before.if1.false) c.before.if2.true)
 
@@ -44,7 +44,7 @@ returns-3 : tie.Need-returns-3
 returns-3 c =
     let a = c.before.before.before.before.before.before.args in
     c.step.ensures ∙ ap (λ (r : Reader). step_of r (invalid (negsuc 0))) c.before.before.before.before.before.reader-in.ensures ∙ sym
-    (step-invalid a.bytes a.violation a.byte a.control
+    (step_invalid a.bytes a.violation a.byte a.control
     (sym c.before.before.before.before.is-reader.ensures ∙ not-false _ c.before.before.before.if1.false) c.before.if3.true)
 
 refused-requires-3 : tie.Need-refused-requires-3
@@ -53,7 +53,7 @@ refused-requires-3 c κs = search rules
 returns-4 : tie.Need-returns-4
 returns-4 c =
     let a = c.before.before.before.before.before.before.before.args in
-    c.refused3.ensures ∙ ap (λ (r : Reader). refusedStep r 1) c.before.before.before.before.before.before.reader-in.ensures ∙ sym
+    c.refused3.ensures ∙ ap (λ (r : Reader). refused_step r 1) c.before.before.before.before.before.before.reader-in.ensures ∙ sym
     (step-no-byte a.bytes a.violation a.byte a.control
     (sym c.before.before.before.before.before.is-reader.ensures ∙ not-false _ c.before.before.before.before.if1.false)
     c.before.before.before.if2.false c.before.before.if3.false c.before.if4.true)

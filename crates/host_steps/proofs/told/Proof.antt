@@ -1,6 +1,6 @@
 -- Event by event.
 -- Assumes nothing.
-use Rattle.host_rules.specs.Stepping.{toldOf}
+use Rattle.host_rules.specs.Stepping.{told_of}
 use borrow.Author.Rules.{rules}
 use Rattle.host_steps.proofs.told.Statement.{statement}
 use Rattle.host_steps.proofs.told.Tie as tie
@@ -60,39 +60,39 @@ cast-t14 : tie.Need-overflow-cast-t14
 cast-t14 c = search rules
 
 returns : tie.Need-returns
-unfolding toldOf
+unfolding told_of
 returns c = simp (c.number-told.ensures, c.before.enum_told.given.1)
 
 returns-2 : tie.Need-returns-2
-unfolding toldOf
+unfolding told_of
 returns-2 c = simp (c.number-told2.ensures, c.before.before.e.given.1)
 
 returns-3 : tie.Need-returns-3
-unfolding toldOf
+unfolding told_of
 returns-3 c = simp (c.number-told3.ensures, c.before.before.e2.given.1)
 
 returns-4 : tie.Need-returns-4
-unfolding toldOf
+unfolding told_of
 returns-4 c = simp (c.number-told4.ensures, c.before.before.e3.given.1)
 
 returns-5 : tie.Need-returns-5
-unfolding toldOf
+unfolding told_of
 returns-5 c = simp (c.number-told5.ensures, c.before.before.e4.given.1)
 
 returns-6 : tie.Need-returns-6
-unfolding toldOf
+unfolding told_of
 returns-6 c = simp (c.number-told6.ensures, c.before.before.before.e5.given.1, c.before.mark-number.ensures)
 
 returns-7 : tie.Need-returns-7
-unfolding toldOf
+unfolding told_of
 returns-7 c = simp (c.number-told7.ensures, c.before.before.before.e6.given.1, c.before.mark-number2.ensures)
 
 returns-8 : tie.Need-returns-8
-unfolding toldOf
+unfolding told_of
 returns-8 c = simp c.before.e7.given.1
 
-pub told-spec : {M : Type 1} → statement M
-told-spec =
+pub told_spec : {M : Type 1} → statement M
+told_spec =
     tie.close
     (tie.spec
     enum_told

@@ -18,6 +18,6 @@ returns c = search rules
 returns-2 : tie.Need-returns-2
 returns-2 c = search rules
 
-pub write-front-spec : {M : Type 1} → statement M
-write-front-spec =
+pub write_front_spec : {M : Type 1} → statement M
+write_front_spec =
     tie.close (tie.spec slice-aggregate-write-all write-all-requires returns returns-2)

@@ -36,8 +36,8 @@ loop-again c = omega arith
 returns-2 : tie.Need-returns-2 invariant-loop decreases-loop
 returns-2 c = search rules
 
-pub write-listing-spec : {M : Type 1} → statement M
-write-listing-spec =
+pub write_listing_spec : {M : Type 1} → statement M
+write_listing_spec =
     tie.close
     (tie.spec
     invariant-loop

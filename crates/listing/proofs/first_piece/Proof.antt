@@ -3,10 +3,10 @@
 use mathlib.Core.Path.{refl, sym, ◌∙◌}
 use borrow.Author.Tests.{not-true, not-false}
 use Rattle.listing_rules.specs.Text.{decimal}
-use Rattle.listing_rules.specs.Lines.{header, refusedLine}
-use Rattle.listing_text.specs.Writing.{frontRoom}
-use Rattle.listing_text.proofs.Written.{put-wrote}
-use Rattle.listing.proofs.Nexts.{refused-is, header_is, never-refused}
+use Rattle.listing_rules.specs.Lines.{header, refused_line}
+use Rattle.listing_text.specs.Writing.{front_room}
+use Rattle.listing_text.proofs.Written.{put_wrote}
+use Rattle.listing.proofs.Nexts.{refused_is, header_is, never_refused}
 use borrow.Author.Rules.{rules}
 use Rattle.listing.proofs.first_piece.Statement.{statement}
 use Rattle.listing.proofs.first_piece.Tie as tie
@@ -24,9 +24,9 @@ returns : tie.Need-returns
 unfolding decimal
 returns c =
     let a = c.before.before.before.before.before.before.args in
-    refused-is a.capture.now a.out.now c.put_front.new.1.0 c.put_front.result
+    refused_is a.capture.now a.out.now c.put_front.new.1.0 c.put_front.result
     (sym c.before.before.before.before.is-legal.ensures ∙ not-true _ c.before.before.before.if1.true)
-    (put-wrote (frontRoom refusedLine) 0 refusedLine a.out.now _ _ refl c.put_front.ensures)
+    (put_wrote (front_room refused_line) 0 refused_line a.out.now _ _ refl c.put_front.ensures)
 
 slice-aggregate-put-front-2 : tie.Need-slice-aggregate-put-front-2
 slice-aggregate-put-front-2 c = search rules
@@ -52,7 +52,7 @@ returns-2 c =
     c.before.reader.given.0.0 c.before.reader.given.1
     (sym c.before.before.before.before.before.before.before.before.is-legal.ensures
     ∙ not-false _ c.before.before.before.before.before.before.before.if1.false)
-    (put-wrote (frontRoom header) 0 header a.out.now _ _ refl put.ensures)
+    (put_wrote (front_room header) 0 header a.out.now _ _ refl put.ensures)
 
 returns-3 : tie.Need-returns-3
 returns-3 c =
@@ -60,11 +60,11 @@ returns-3 c =
     let put = c.before.before.before.before.put-front2 in
     let a = c.before.before.before.before.before.before.before.before.before.before.args in
     absurd
-    (never-refused a.capture.now a.out.now put.new.1.0 put.result the-fresh.result the-fresh.ensures
+    (never_refused a.capture.now a.out.now put.new.1.0 put.result the-fresh.result the-fresh.ensures
     c.before.r.given.0.0 c.before.r.given.1)
 
-pub first-piece-spec : {M : Type 1} → statement M
-first-piece-spec =
+pub first_piece_spec : {M : Type 1} → statement M
+first_piece_spec =
     tie.close
     (tie.spec
     is-legal-requires

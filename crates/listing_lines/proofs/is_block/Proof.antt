@@ -13,5 +13,5 @@ returns-2 c = simp (le-leb _ _ c.before.if1.false, lt-leb _ _ c.if2.true)
 returns-3 : tie.Need-returns-3
 returns-3 c = simp (le-leb _ _ c.before.if1.false, le-leb _ _ c.if2.false)
 
-pub is-block-spec : {M : Type 1} → statement M
-is-block-spec = tie.close (tie.spec returns returns-2 returns-3)
+pub is_block_spec : {M : Type 1} → statement M
+is_block_spec = tie.close (tie.spec returns returns-2 returns-3)

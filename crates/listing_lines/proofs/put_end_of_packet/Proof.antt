@@ -1,7 +1,7 @@
 -- The line by the test.
 -- Assumes nothing.
 use native.Mathlib.Omega.{arith}
-use Rattle.listing_lines.proofs.Events.{endBad, endGood, worded-wrote}
+use Rattle.listing_lines.proofs.Events.{end_bad, end_good, worded_wrote}
 use borrow.Author.Rules.{rules}
 use Rattle.listing_lines.proofs.put_end_of_packet.Statement.{statement}
 use Rattle.listing_lines.proofs.put_end_of_packet.Tie as tie
@@ -17,7 +17,7 @@ returns c =
     let s = c.before.before.before.before in
     let a = s.args in
     rw c.before.before.before.if1.true
-    (worded-wrote a.place a.at endBad a.out.now _ _ s.requires (omega arith) c.put-worded.ensures)
+    (worded_wrote a.place a.at end_bad a.out.now _ _ s.requires (omega arith) c.put-worded.ensures)
 
 slice-aggregate-put-worded-2 : tie.Need-slice-aggregate-put-worded-2
 slice-aggregate-put-worded-2 c = search rules
@@ -30,10 +30,10 @@ returns-2 c =
     let s = c.before.before.before.before in
     let a = s.args in
     rw c.before.before.before.if1.false
-    (worded-wrote a.place a.at endGood a.out.now _ _ s.requires (omega arith) c.put-worded2.ensures)
+    (worded_wrote a.place a.at end_good a.out.now _ _ s.requires (omega arith) c.put-worded2.ensures)
 
-pub put-end-of-packet-spec : {M : Type 1} → statement M
-put-end-of-packet-spec =
+pub put_end_of_packet_spec : {M : Type 1} → statement M
+put_end_of_packet_spec =
     tie.close
     (tie.spec
     slice-aggregate-put-worded

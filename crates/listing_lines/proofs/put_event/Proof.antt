@@ -2,12 +2,12 @@
 -- Assumes nothing.
 use mathlib.Core.Path.{sym, subst}
 use native.Mathlib.Omega.{arith}
-use Rattle.packet_rules.specs.Answers.{eventSays}
+use Rattle.packet_rules.specs.Answers.{event_says}
 use Rattle.packet_rules.specs.declared.Event.{Event}
-use Rattle.listing_rules.specs.Lines.{fields_of, eventLine}
+use Rattle.listing_rules.specs.Lines.{fields_of, event_line}
 use Rattle.listing_text.specs.Writing.{Wrote}
 use Rattle.listing_text.proofs.Written.{wrote_none}
-use Rattle.listing_lines.proofs.Events.{startData, startPriority, violation, numbered-wrote}
+use Rattle.listing_lines.proofs.Events.{start_data, start_priority, violation, numbered_wrote}
 use borrow.Author.Rules.{rules}
 use Rattle.listing_lines.proofs.put_event.Statement.{statement}
 use Rattle.listing_lines.proofs.put_event.Tie as tie
@@ -72,44 +72,44 @@ enum-told-3 c = search rules
 returns : tie.Need-returns
 returns c =
     let a = c.before.before.args in
-    subst (λ (e : Event). Wrote a.at (eventLine a.place (fields_of (eventSays e))) a.out.now a.out.now a.at)
+    subst (λ (e : Event). Wrote a.at (event_line a.place (fields_of (event_says e))) a.out.now a.out.now a.at)
     (sym c.enum_told.given.1) (wrote_none a.at a.out.now)
 
 returns-2 : tie.Need-returns-2
 returns-2 c =
     let s = c.before.before.before.before.before.before in
     let a = s.args in
-    subst (λ (e : Event). Wrote a.at (eventLine a.place (fields_of (eventSays e))) a.out.now c.put-numbered.new.1.1.1.1.0
+    subst (λ (e : Event). Wrote a.at (event_line a.place (fields_of (event_says e))) a.out.now c.put-numbered.new.1.1.1.1.0
     c.put-numbered.result)
     (sym c.before.before.before.before.event.given.1)
-    (numbered-wrote a.place a.at startData a.out.now _ _ s.requires _ (omega arith) c.put-numbered.ensures)
+    (numbered_wrote a.place a.at start_data a.out.now _ _ s.requires _ (omega arith) c.put-numbered.ensures)
 
 returns-3 : tie.Need-returns-3
 returns-3 c =
     let s = c.before.before.before.before.before.before in
     let a = s.args in
-    subst (λ (e : Event). Wrote a.at (eventLine a.place (fields_of (eventSays e))) a.out.now c.put-numbered2.new.1.1.1.1.0
+    subst (λ (e : Event). Wrote a.at (event_line a.place (fields_of (event_says e))) a.out.now c.put-numbered2.new.1.1.1.1.0
     c.put-numbered2.result)
     (sym c.before.before.before.before.event2.given.1)
-    (numbered-wrote a.place a.at startPriority a.out.now _ _ s.requires _ (omega arith) c.put-numbered2.ensures)
+    (numbered_wrote a.place a.at start_priority a.out.now _ _ s.requires _ (omega arith) c.put-numbered2.ensures)
 
 returns-4 : tie.Need-returns-4
 returns-4 c =
     let a = c.before.before.args in
-    subst (λ (e : Event). Wrote a.at (eventLine a.place (fields_of (eventSays e))) a.out.now a.out.now a.at)
+    subst (λ (e : Event). Wrote a.at (event_line a.place (fields_of (event_says e))) a.out.now a.out.now a.at)
     (sym c.enum-told2.given.1) (wrote_none a.at a.out.now)
 
 returns-5 : tie.Need-returns-5
 returns-5 c =
     let a = c.before.before.before.before.before.args in
-    subst (λ (e : Event). Wrote a.at (eventLine a.place (fields_of (eventSays e))) a.out.now c.put-end-of-packet.new.1.1.1.0
+    subst (λ (e : Event). Wrote a.at (event_line a.place (fields_of (event_says e))) a.out.now c.put-end-of-packet.new.1.1.1.0
     c.put-end-of-packet.result)
     (sym c.before.before.before.event3.given.1) c.put-end-of-packet.ensures
 
 returns-6 : tie.Need-returns-6
 returns-6 c =
     let a = c.before.before.before.before.before.args in
-    subst (λ (e : Event). Wrote a.at (eventLine a.place (fields_of (eventSays e))) a.out.now c.put-lmp.new.1.1.1.1.0
+    subst (λ (e : Event). Wrote a.at (event_line a.place (fields_of (event_says e))) a.out.now c.put-lmp.new.1.1.1.1.0
     c.put-lmp.result)
     (sym c.before.before.before.event4.given.1) c.put-lmp.ensures
 
@@ -117,19 +117,19 @@ returns-7 : tie.Need-returns-7
 returns-7 c =
     let s = c.before.before.before.before.before.before in
     let a = s.args in
-    subst (λ (e : Event). Wrote a.at (eventLine a.place (fields_of (eventSays e))) a.out.now c.put-numbered3.new.1.1.1.1.0
+    subst (λ (e : Event). Wrote a.at (event_line a.place (fields_of (event_says e))) a.out.now c.put-numbered3.new.1.1.1.1.0
     c.put-numbered3.result)
     (sym c.before.before.before.before.event5.given.1)
-    (numbered-wrote a.place a.at violation a.out.now _ _ s.requires _ (omega arith) c.put-numbered3.ensures)
+    (numbered_wrote a.place a.at violation a.out.now _ _ s.requires _ (omega arith) c.put-numbered3.ensures)
 
 returns-8 : tie.Need-returns-8
 returns-8 c =
     let a = c.before.before.args in
-    subst (λ (e : Event). Wrote a.at (eventLine a.place (fields_of (eventSays e))) a.out.now a.out.now a.at)
+    subst (λ (e : Event). Wrote a.at (event_line a.place (fields_of (event_says e))) a.out.now a.out.now a.at)
     (sym c.enum-told3.given.1) (wrote_none a.at a.out.now)
 
-pub put-event-spec : {M : Type 1} → statement M
-put-event-spec =
+pub put_event_spec : {M : Type 1} → statement M
+put_event_spec =
     tie.close
     (tie.spec
     enum_told

@@ -1,7 +1,7 @@
 -- The line by the reply.
 -- Assumes nothing.
 use native.Mathlib.Omega.{arith}
-use Rattle.listing_lines.proofs.Events.{lmpNack, lmpAck, numbered-wrote}
+use Rattle.listing_lines.proofs.Events.{lmp_nack, lmp_ack, numbered_wrote}
 use borrow.Author.Rules.{rules}
 use Rattle.listing_lines.proofs.put_lmp.Statement.{statement}
 use Rattle.listing_lines.proofs.put_lmp.Tie as tie
@@ -17,7 +17,7 @@ returns c =
     let s = c.before.before.before.before in
     let a = s.args in
     rw c.before.before.before.if1.true
-    (numbered-wrote a.place a.at lmpNack a.out.now _ _ s.requires a.number (omega arith) c.put-numbered.ensures)
+    (numbered_wrote a.place a.at lmp_nack a.out.now _ _ s.requires a.number (omega arith) c.put-numbered.ensures)
 
 slice-aggregate-put-numbered-2 : tie.Need-slice-aggregate-put-numbered-2
 slice-aggregate-put-numbered-2 c = search rules
@@ -30,10 +30,10 @@ returns-2 c =
     let s = c.before.before.before.before in
     let a = s.args in
     rw c.before.before.before.if1.false
-    (numbered-wrote a.place a.at lmpAck a.out.now _ _ s.requires a.number (omega arith) c.put-numbered2.ensures)
+    (numbered_wrote a.place a.at lmp_ack a.out.now _ _ s.requires a.number (omega arith) c.put-numbered2.ensures)
 
-pub put-lmp-spec : {M : Type 1} → statement M
-put-lmp-spec =
+pub put_lmp_spec : {M : Type 1} → statement M
+put_lmp_spec =
     tie.close
     (tie.spec
     slice-aggregate-put-numbered

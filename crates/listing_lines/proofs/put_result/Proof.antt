@@ -2,10 +2,10 @@
 -- Assumes nothing.
 use mathlib.Core.Path.{sym, ◌∙◌}
 use native.Mathlib.Omega.{arith}
-use Rattle.packet_rules.specs.Answers.{eventSays}
+use Rattle.packet_rules.specs.Answers.{event_says}
 use Rattle.listing_rules.specs.Lines.{fields_of}
-use Rattle.listing_rules.proofs.Runs.{listed-low}
-use Rattle.listing_lines.proofs.Lines.{listed-one, listed-short, listed-nothing}
+use Rattle.listing_rules.proofs.Runs.{listed_low}
+use Rattle.listing_lines.proofs.Lines.{listed_one, listed_short, listed_nothing}
 use borrow.Author.Rules.{rules}
 use Rattle.listing_lines.proofs.put_result.Statement.{statement}
 use Rattle.listing_lines.proofs.put_result.Tie as tie
@@ -24,7 +24,7 @@ returns c =
     let the_step = c.before.before.before.step in
     let the-unpack-result = c.before.before.before.before.unpack-result in
     let a = c.before.before.before.before.before.before.args in (
-      listed-nothing a.place a.result a.p a.out.now the-unpack-result.result the_step.result the-unpack-result.ensures
+      listed_nothing a.place a.result a.p a.out.now the-unpack-result.result the_step.result the-unpack-result.ensures
           the_step.ensures (sym c.before.listed-events.ensures ∙ c.if1.true),
       omega arith,
     )
@@ -36,7 +36,7 @@ add-events : tie.Need-overflow-add-events
 add-events c =
     let the_step = c.before.before.before.before.before.before.step in
     let s = c.before.before.before.before.before.before.before.before.before in
-    omega (arith, s.requires.1, c.before.before.before.before.listed-events.ensures, listed-low (fields_of (eventSays the_step.result.event)))
+    omega (arith, s.requires.1, c.before.before.before.before.listed-events.ensures, listed_low (fields_of (event_says the_step.result.event)))
 
 returns-2 : tie.Need-returns-2
 returns-2 c =
@@ -45,16 +45,16 @@ returns-2 c =
     let the_step = c.before.before.before.before.before.before.step in
     let the-unpack-result = c.before.before.before.before.before.before.before.unpack-result in
     let a = c.before.before.before.before.before.before.before.before.before.args in (
-      listed-one a.place a.result a.p a.out.now the-put-event.new.1.1.1.0 the-unpack-result.result the_step.result
+      listed_one a.place a.result a.p a.out.now the-put-event.new.1.1.1.0 the-unpack-result.result the_step.result
           the-put-event.result the-listed-events.result the-unpack-result.ensures the_step.ensures the-put-event.ensures
           the-listed-events.ensures,
-      listed-short a.place a.result a.p a.out.now the-put-event.new.1.1.1.0 the-unpack-result.result the_step.result
+      listed_short a.place a.result a.p a.out.now the-put-event.new.1.1.1.0 the-unpack-result.result the_step.result
           the-put-event.result the-listed-events.result the-unpack-result.ensures the_step.ensures the-put-event.ensures
           the-listed-events.ensures,
     )
 
-pub put-result-spec : {M : Type 1} → statement M
-put-result-spec =
+pub put_result_spec : {M : Type 1} → statement M
+put_result_spec =
     tie.close
     (tie.spec
     unpack-result-requires

@@ -8,7 +8,7 @@ use lib.ListN.{length, take}
 use lib.Seq.{take-length, length-take-le}
 use borrow.Author.Tests.{not-true, not-false}
 use Rattle.listing_lines.specs.Results.{begun, Listed}
-use Rattle.listing_lines.proofs.Lines.{listed-none, listed_next, listed-few, block-fits, block-done, block-not}
+use Rattle.listing_lines.proofs.Lines.{listed_none, listed_next, listed_few, block_fits, block_done, block_not}
 use borrow.Author.Rules.{rules}
 use Rattle.listing_lines.proofs.put_results.Statement.{statement}
 use Rattle.listing_lines.proofs.put_results.Tie as tie
@@ -25,15 +25,15 @@ is-block-requires c κs = search rules
 returns : tie.Need-returns invariant-loop decreases-loop
 returns c =
     let a = c.before.before.before.before.args in
-    block-not a.results.now a.from a.out.now (sym c.before.is_Block.ensures ∙ not-true _ c.if1.true)
+    block_not a.results.now a.from a.out.now (sym c.before.is_Block.ensures ∙ not-true _ c.if1.true)
 
 loop-holds : tie.Need-loop-init invariant-loop decreases-loop
-loop-holds c = (omega arith, listed-none _ _ _, omega arith)
+loop-holds c = (omega arith, listed_none _ _ _, omega arith)
 
 mul-put-result : tie.Need-overflow-mul-put-result invariant-loop decreases-loop
 mul-put-result c =
     let s = c.before.before.before.before.before.before in
-    let f = block-fits s.args.results.now s.args.from
+    let f = block_fits s.args.results.now s.args.from
     (sym c.before.before.before.is_Block.ensures ∙ not-false _ c.before.before.if1.false) in
     omega (arith, f.0)
 
@@ -43,17 +43,17 @@ shared-slice-read-put-result c = omega arith
 add-put-result : tie.Need-overflow-add-put-result invariant-loop decreases-loop
 add-put-result c =
     let s = c.before.before.before.before.before.before.before in
-    let f = block-fits s.args.results.now s.args.from
+    let f = block_fits s.args.results.now s.args.from
     (sym c.before.before.before.before.is_Block.ensures ∙ not-false _ c.before.before.before.if1.false) in
     omega (arith, f.0, f.1)
 
 put-result-requires : tie.Need-put-result-requires invariant-loop decreases-loop
 put-result-requires c κs =
     let s = c.before.before.before.before.before.before.before.before in
-    let f = block-fits s.args.results.now s.args.from
+    let f = block_fits s.args.results.now s.args.from
     (sym c.before.before.before.before.before.is_Block.ensures ∙ not-false _ c.before.before.before.before.if1.false) in
     let l = c.before.before.before.loop in
-    let g = listed-few l.invariant.1 in
+    let g = listed_few l.invariant.1 in
     let n = length-take-le l.i s.args.results.now l.invariant.0 in
     (omega (arith, f.0), omega (arith, f.0, f.2))
 
@@ -79,13 +79,13 @@ returns-2 c =
     let l = c.before.loop in
     let s = c.before.before.before.before.before.before in
     let n : l.i ≡ length s.args.results.now = omega arith in
-    block-done s.args.results.now s.args.from s.args.out.now l.out l.p
+    block_done s.args.results.now s.args.from s.args.out.now l.out l.p
     (sym c.before.before.before.is_Block.ensures ∙ not-false _ c.before.before.if1.false)
     (subst (λ (t : List ℕ). Listed s.args.from.place t (begun s.args.from) s.args.out.now l.out l.p)
     (ap (λ (k : ℕ). take k s.args.results.now) n ∙ take-length s.args.results.now) l.invariant.1)
 
-pub put-results-spec : {M : Type 1} → statement M
-put-results-spec =
+pub put_results_spec : {M : Type 1} → statement M
+put_results_spec =
     tie.close
     (tie.spec
     invariant-loop

@@ -10,5 +10,5 @@ returns c = simp (lt-ltb _ _ c.if1.true)
 returns-2 : tie.Need-returns-2
 returns-2 c = simp (le-ltb _ _ c.if1.false)
 
-pub block-length-spec : {M : Type 1} → statement M
-block-length-spec = tie.close (tie.spec returns returns-2)
+pub block_length_spec : {M : Type 1} → statement M
+block_length_spec = tie.close (tie.spec returns returns-2)

@@ -26,6 +26,6 @@ returns-2 : tie.Need-returns-2
 returns-2 c = let a = c.before.before.before.before in
     found_nothing a.args.capture.now a.args.place _ _ a.requires.0 a.requires.1 c.before.before.character-at.ensures c.enum_told.given.1
 
-pub character-at-spec : {M : Type 1} → statement M
-character-at-spec =
+pub character_at_spec : {M : Type 1} → statement M
+character_at_spec =
     tie.close (tie.spec character-at-requires enum-known-n cast-result enum_told returns returns-2)

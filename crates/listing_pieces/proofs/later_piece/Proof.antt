@@ -3,10 +3,10 @@
 use mathlib.Core.Path.{sym, ◌∙◌}
 use native.Mathlib.Omega.{arith}
 use borrow.Author.Tests.{not-true, not-false}
-use Rattle.laws.proofs.Bools.{true-T}
-use Rattle.capture_rules.proofs.Packing.{legal-size}
+use Rattle.laws.proofs.Bools.{true_t}
+use Rattle.capture_rules.proofs.Packing.{legal_size}
 use Rattle.listing_rules.specs.Pieces.{says}
-use Rattle.listing_pieces.proofs.Nexts.{bad-capture, broken-rule, past_the_end, later-comes}
+use Rattle.listing_pieces.proofs.Nexts.{bad_capture, broken_rule, past_the_end, later_comes}
 use borrow.Author.Rules.{rules}
 use Rattle.listing_pieces.proofs.later_piece.Statement.{statement}
 use Rattle.listing_pieces.proofs.later_piece.Tie as tie
@@ -20,7 +20,7 @@ refused-requires c κs = search rules
 returns : tie.Need-returns
 returns c =
     let a = c.before.before.before.before.args in
-    bad-capture a.capture.now a.p a.out.now c.refused.result c.refused.ensures
+    bad_capture a.capture.now a.p a.out.now c.refused.result c.refused.ensures
     (sym c.before.before.is-legal.ensures ∙ not-true _ c.before.if1.true)
 
 keeps-rule-requires : tie.Need-keeps-rule-requires
@@ -32,7 +32,7 @@ refused-requires-2 c κs = search rules
 returns-2 : tie.Need-returns-2
 returns-2 c =
     let a = c.before.before.before.before.before.before.args in
-    broken-rule a.capture.now a.p a.out.now (sym c.before.before.before.before.is-legal.ensures
+    broken_rule a.capture.now a.p a.out.now (sym c.before.before.before.before.is-legal.ensures
     ∙ not-false _ c.before.before.before.if1.false)
     c.refused2.result c.refused2.ensures (sym c.before.before.keeps-rule.ensures ∙ not-true _ c.before.if2.true)
 
@@ -40,8 +40,8 @@ mul-if3 : tie.Need-overflow-mul-if3
 mul-if3 c =
     omega (
       arith,
-      legal-size c.before.before.before.before.before.args.capture.now
-          (true-T _ (sym c.before.before.before.is-legal.ensures ∙ not-false _ c.before.before.if1.false)),
+      legal_size c.before.before.before.before.before.args.capture.now
+          (true_t _ (sym c.before.before.before.is-legal.ensures ∙ not-false _ c.before.before.if1.false)),
     )
 
 refused-requires-3 : tie.Need-refused-requires-3
@@ -65,14 +65,14 @@ lines-or-end-requires c κs = (
 returns-4 : tie.Need-returns-4
 returns-4 c =
     let a = c.before.before.before.before.before.before.before.before.before.args in
-    later-comes a.capture.now a.p a.out.now (sym c.before.before.before.before.before.before.before.is-legal.ensures
+    later_comes a.capture.now a.p a.out.now (sym c.before.before.before.before.before.before.before.is-legal.ensures
     ∙ not-false _ c.before.before.before.before.before.before.if1.false)
     (sym c.before.before.before.before.before.keeps-rule.ensures ∙ not-false _ c.before.before.before.before.if2.false)
     (says c.lines-or-end.result) c.lines-or-end.new.1.1.0 c.before.before.if3.false c.lines-or-end.ensures.0
     c.lines-or-end.ensures.1
 
-pub later-piece-spec : {M : Type 1} → statement M
-later-piece-spec =
+pub later_piece_spec : {M : Type 1} → statement M
+later_piece_spec =
     tie.close
     (tie.spec
     is-legal-requires

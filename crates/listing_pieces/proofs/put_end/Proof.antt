@@ -6,8 +6,8 @@ use Prim.Native.Nat.{◌+◌}
 use native.Mathlib.Omega.{arith}
 use borrow.Author.Tests.{le-leb}
 use Rattle.listing_rules.specs.Text.{end_word, space}
-use Rattle.listing_text.specs.Writing.{numberedLine, frontRoom, numberedRoom}
-use Rattle.listing_text.proofs.Written.{wrote-more, wrote-whole, put-wrote}
+use Rattle.listing_text.specs.Writing.{numbered_line, front_room, numbered_room}
+use Rattle.listing_text.proofs.Written.{wrote_more, wrote_whole, put_wrote}
 use borrow.Author.Rules.{rules}
 use Rattle.listing_pieces.proofs.put_end.Statement.{statement}
 use Rattle.listing_pieces.proofs.put_end.Tie as tie
@@ -29,14 +29,14 @@ returns c =
     let a = c.before.before.before.before.before.before.args in
     let first = c.before.before.before.put_front in
     let word = end_word ++ space ∷ [] in
-    let w = put-wrote (frontRoom word) 0 word a.out.now _ _ refl first.ensures in
-    wrote-whole
-    (wrote-more w
-    (put-wrote (numberedRoom first.result (space ∷ [])) first.result (numberedLine a.characters (space ∷ []) a.events) _ _ _
+    let w = put_wrote (front_room word) 0 word a.out.now _ _ refl first.ensures in
+    wrote_whole
+    (wrote_more w
+    (put_wrote (numbered_room first.result (space ∷ [])) first.result (numbered_line a.characters (space ∷ []) a.events) _ _ _
     (le-leb (first.result + 12) 2048 (omega (arith, w.size))) c.put-numbered.ensures))
 
-pub put-end-spec : {M : Type 1} → statement M
-put-end-spec =
+pub put_end_spec : {M : Type 1} → statement M
+put_end_spec =
     tie.close
     (tie.spec
     slice-aggregate-put-front

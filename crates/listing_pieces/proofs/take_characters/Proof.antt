@@ -6,15 +6,15 @@ use Prim.Native.Nat.{ℕ, ◌+◌, ◌-◌, ◌≤◌}
 use native.Mathlib.Omega.{arith}
 use lib.ListN.{length, take, drop, set, get_or, length-set, length-drop}
 use lib.Seq.{get_or-drop}
-use Rattle.laws.proofs.Stores.{store-next}
-use Rattle.capture_rules.specs.Capture.{charactersOf}
-use Rattle.capture_rules.proofs.Packing.{characters-length}
+use Rattle.laws.proofs.Stores.{store_next}
+use Rattle.capture_rules.specs.Capture.{characters_of}
+use Rattle.capture_rules.proofs.Packing.{characters_length}
 use Rattle.listing_pieces.proofs.Places.{count_low}
 use Rattle.listing_pieces.proofs.take_characters.Statement.{statement}
 use Rattle.listing_pieces.proofs.take_characters.Tie as tie
 
 abbrev invariant-loop : tie.invariant-loop
-invariant-loop capture place n out₀ i₀ out i = (i ≤ n) × (out ≡ take i (drop place (charactersOf capture)) ++ drop i out₀) × (length out ≡ length out₀)
+invariant-loop capture place n out₀ i₀ out i = (i ≤ n) × (out ≡ take i (drop place (characters_of capture)) ++ drop i out₀) × (length out ≡ length out₀)
 
 abbrev decreases-loop : tie.decreases-loop
 decreases-loop capture place n out₀ i₀ out i = n - i
@@ -43,14 +43,14 @@ loop-less c = omega arith
 loop-again : tie.Need-loop-preserved invariant-loop decreases-loop
 loop-again c = let l = c.before.before.loop in
     let s = c.before.before.before.before.before in
-    let all = charactersOf s.args.capture.now in
+    let all = characters_of s.args.capture.now in
     let result = drop s.args.place all in
-    let e = characters-length s.args.capture.now in
+    let e = characters_length s.args.capture.now in
     let d = length-drop s.args.place all in (
       omega arith,
       ap (λ (v : ℕ). set l.out l.i v) (c.character-at.ensures ∙ sym (get_or-drop s.args.place all l.i 0))
           ∙ ap (λ (x : List ℕ). set x l.i (get_or result l.i 0)) l.invariant.1
-          ∙ store-next result s.args.out.now 0 l.i (omega arith) (omega arith),
+          ∙ store_next result s.args.out.now 0 l.i (omega arith) (omega arith),
       simp length-set l.invariant.2,
     )
 
@@ -61,10 +61,10 @@ returns : tie.Need-returns invariant-loop decreases-loop
 returns c = let l = c.before.loop in
     let s = c.before.before.before.before in
     let e : l.i ≡ s.args.n = omega arith in
-    l.invariant.1 ∙ ap (λ (k : ℕ). take k (drop s.args.place (charactersOf s.args.capture.now)) ++ drop k s.args.out.now) e
+    l.invariant.1 ∙ ap (λ (k : ℕ). take k (drop s.args.place (characters_of s.args.capture.now)) ++ drop k s.args.out.now) e
 
-pub take-characters-spec : {M : Type 1} → statement M
-take-characters-spec =
+pub take_characters_spec : {M : Type 1} → statement M
+take_characters_spec =
     tie.close
     (tie.spec
     invariant-loop

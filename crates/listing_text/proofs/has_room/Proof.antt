@@ -26,5 +26,5 @@ returns-3 c =
     let a = c.before.before.args in
     sym (le-leb (a.at + (a.length + a.more)) 2048 (omega (arith, c.before.before.requires, c.before.if1.false, c.if2.false)))
 
-pub has-room-spec : {M : Type 1} → statement M
-has-room-spec = tie.close (tie.spec sub-limit returns returns-2 returns-3)
+pub has_room_spec : {M : Type 1} → statement M
+has_room_spec = tie.close (tie.spec sub-limit returns returns-2 returns-3)

@@ -29,5 +29,5 @@ returns-5 c = simp (
   le-ltb _ _ c.if4.false,
 )
 
-pub leading-zeros-spec : {M : Type 1} → statement M
-leading-zeros-spec = tie.close (tie.spec returns returns-2 returns-3 returns-4 returns-5)
+pub leading_zeros_spec : {M : Type 1} → statement M
+leading_zeros_spec = tie.close (tie.spec returns returns-2 returns-3 returns-4 returns-5)

@@ -7,7 +7,7 @@ use native.Mathlib.Numerals.{add-one}
 use native.Mathlib.Omega.{arith}
 use lib.ListN.{length, get_or, set, length-set}
 use lib.Seq.{paste, paste-zero, paste-suc}
-use Rattle.listing_text.proofs.Written.{wrote-copy}
+use Rattle.listing_text.proofs.Written.{wrote_copy}
 use Rattle.listing_text.proofs.put.Statement.{statement}
 use Rattle.listing_text.proofs.put.Tie as tie
 
@@ -54,7 +54,7 @@ same_length c = c.before.loop.invariant.2
 returns : tie.Need-returns invariant-loop decreases-loop
 returns c = let l = c.before.loop in
     let a = c.before.before.args in
-    wrote-copy a.at a.text.now a.out.now l.out l.i (omega arith) l.invariant.1
+    wrote_copy a.at a.text.now a.out.now l.out l.i (omega arith) l.invariant.1
 
 pub put_spec : {M : Type 1} → statement M
 put_spec =

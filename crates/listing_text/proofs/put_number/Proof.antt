@@ -5,7 +5,7 @@ use mathlib.Core.List.{List}
 use Prim.Native.Nat.{ℕ, ◌-◌}
 use native.Mathlib.Omega.{arith}
 use Rattle.listing_text.specs.Writing.{Wrote}
-use Rattle.listing_text.proofs.Decimal.{zeros-low, decimal-part}
+use Rattle.listing_text.proofs.Decimal.{zeros_low, decimal_part}
 use borrow.Author.Rules.{rules}
 use Rattle.listing_text.proofs.put_number.Statement.{statement}
 use Rattle.listing_text.proofs.put_number.Tie as tie
@@ -17,10 +17,10 @@ leading-zeros-requires : tie.Need-leading-zeros-requires
 leading-zeros-requires c κs = search rules
 
 sub-put : tie.Need-overflow-sub-put
-sub-put c = omega (arith, zeros-low c.before.before.before.args.n, c.leading_zeros.ensures)
+sub-put c = omega (arith, zeros_low c.before.before.before.args.n, c.leading_zeros.ensures)
 
 part-put-start : tie.Need-slice-bounds-put-start
-part-put-start c = omega (arith, zeros-low c.before.before.before.before.args.n, c.before.leading_zeros.ensures)
+part-put-start c = omega (arith, zeros_low c.before.before.before.before.args.n, c.before.leading_zeros.ensures)
 
 part-put-end : tie.Need-slice-bounds-put-end
 part-put-end c = search rules
@@ -38,11 +38,11 @@ returns c =
     let the-five-digits = c.before.before.before.before.before.before.before.five-digits in
     let s = c.before.before.before.before.before.before.before.before.before in
     subst (λ (t : List ℕ). Wrote s.args.at t s.args.out.now the-put.new.1.1.0 the-put.result)
-    (decimal-part s.args.n the-five-digits.result the-leading-zeros.result the-five-digits.ensures the-leading-zeros.ensures)
+    (decimal_part s.args.n the-five-digits.result the-leading-zeros.result the-five-digits.ensures the-leading-zeros.ensures)
     the-put.ensures
 
-pub put-number-spec : {M : Type 1} → statement M
-put-number-spec =
+pub put_number_spec : {M : Type 1} → statement M
+put_number_spec =
     tie.close
     (tie.spec
     five-digits-requires

@@ -5,9 +5,9 @@ use Prim.Native.Nat.{◌+◌}
 use native.Mathlib.Omega.{arith}
 use lib.ListN.{length}
 use borrow.Author.Tests.{not-true, not-false, leb-true}
-use Rattle.listing_text.specs.Writing.{numberedLine, numberedRoom}
-use Rattle.listing_text.proofs.Decimal.{decimal-short}
-use Rattle.listing_text.proofs.Written.{wrote-more, put-done, put-nothing}
+use Rattle.listing_text.specs.Writing.{numbered_line, numbered_room}
+use Rattle.listing_text.proofs.Decimal.{decimal_short}
+use Rattle.listing_text.proofs.Written.{wrote_more, put_done, put_nothing}
 use borrow.Author.Rules.{rules}
 use Rattle.listing_text.proofs.put_numbered.Statement.{statement}
 use Rattle.listing_text.proofs.put_numbered.Tie as tie
@@ -18,7 +18,7 @@ has-room-requires c κs = search rules
 returns : tie.Need-returns
 returns c =
     let a = c.before.before.before.args in
-    put-nothing (numberedRoom a.at a.words.now) a.at (numberedLine a.place a.words.now a.n) a.out.now
+    put_nothing (numbered_room a.at a.words.now) a.at (numbered_line a.place a.words.now a.n) a.out.now
     (sym c.before.has_room.ensures ∙ not-true _ c.if1.true)
 
 put-number-requires : tie.Need-put-number-requires
@@ -32,14 +32,14 @@ put-requires c κs =
     let a = c.before.before.before.before.before.before.args in
     let h = leb-true (a.at + (length a.words.now + 11)) 2048 (sym c.before.before.before.before.has_room.ensures
     ∙ not-false _ c.before.before.before.if1.false) in
-    omega (arith, h, c.before.put-number.ensures.size, decimal-short a.place)
+    omega (arith, h, c.before.put-number.ensures.size, decimal_short a.place)
 
 put-number-requires-2 : tie.Need-put-number-requires-2
 put-number-requires-2 c κs =
     let a = c.before.before.before.before.before.before.before.before.args in
     let h = leb-true (a.at + (length a.words.now + 11)) 2048 (sym c.before.before.before.before.before.before.has_room.ensures
     ∙ not-false _ c.before.before.before.before.before.if1.false) in
-    omega (arith, h, c.before.before.before.put-number.ensures.size, c.before.put.ensures.size, decimal-short a.place)
+    omega (arith, h, c.before.before.before.put-number.ensures.size, c.before.put.ensures.size, decimal_short a.place)
 
 slice-aggregate-put : tie.Need-slice-aggregate-put
 slice-aggregate-put c = search rules
@@ -57,22 +57,22 @@ put-requires-2 c κs =
       c.before.before.before.before.before.before.put-number.ensures.size,
       c.before.before.before.before.put.ensures.size,
       c.before.before.put-number2.ensures.size,
-      decimal-short a.place,
-      decimal-short a.n,
+      decimal_short a.place,
+      decimal_short a.n,
     )
 
 returns-2 : tie.Need-returns-2
 returns-2 c =
     let a = c.before.before.before.before.before.before.before.before.before.before.before.before.args in
-    put-done (numberedRoom a.at a.words.now) a.at (numberedLine a.place a.words.now a.n) a.out.now _ _
+    put_done (numbered_room a.at a.words.now) a.at (numbered_line a.place a.words.now a.n) a.out.now _ _
     (sym c.before.before.before.before.before.before.before.before.before.before.has_room.ensures
     ∙ not-false _ c.before.before.before.before.before.before.before.before.before.if1.false)
-    (wrote-more c.before.before.before.before.before.before.before.put-number.ensures
-    (wrote-more c.before.before.before.before.before.put.ensures
-    (wrote-more c.before.before.before.put-number2.ensures c.put2.ensures)))
+    (wrote_more c.before.before.before.before.before.before.before.put-number.ensures
+    (wrote_more c.before.before.before.before.before.put.ensures
+    (wrote_more c.before.before.before.put-number2.ensures c.put2.ensures)))
 
-pub put-numbered-spec : {M : Type 1} → statement M
-put-numbered-spec =
+pub put_numbered_spec : {M : Type 1} → statement M
+put_numbered_spec =
     tie.close
     (tie.spec
     has-room-requires

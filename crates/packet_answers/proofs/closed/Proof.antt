@@ -16,5 +16,5 @@ returns c = simp c.enum_told.given.1
 returns-2 : tie.Need-returns-2
 returns-2 c = simp c.enum-told2.given.1
 
-pub closed-spec : {M : Type 1} → statement M
-closed-spec = tie.close (tie.spec enum_told enum-told-2 returns returns-2)
+pub closed_spec : {M : Type 1} → statement M
+closed_spec = tie.close (tie.spec enum_told enum-told-2 returns returns-2)

@@ -22,5 +22,5 @@ returns-2 c = simp c.enum-told2.given.1
 returns-3 : tie.Need-returns-3
 returns-3 c = simp c.enum-told3.given.1
 
-pub due-after-spec : {M : Type 1} → statement M
-due-after-spec = tie.close (tie.spec enum_told enum-told-2 enum-told-3 returns returns-2 returns-3)
+pub due_after_spec : {M : Type 1} → statement M
+due_after_spec = tie.close (tie.spec enum_told enum-told-2 enum-told-3 returns returns-2 returns-3)

@@ -7,5 +7,5 @@ use Rattle.packet_answers.proofs.moved.Tie as tie
 returns : tie.Need-returns
 returns c = refl
 
-pub moved-spec : {M : Type 1} → statement M
-moved-spec = tie.close (tie.spec returns)
+pub moved_spec : {M : Type 1} → statement M
+moved_spec = tie.close (tie.spec returns)

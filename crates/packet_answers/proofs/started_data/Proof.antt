@@ -10,5 +10,5 @@ start-requires c κs = search rules
 returns : tie.Need-returns
 returns c = simp c.start.ensures
 
-pub started-data-spec : {M : Type 1} → statement M
-started-data-spec = tie.close (tie.spec start-requires returns)
+pub started_data_spec : {M : Type 1} → statement M
+started_data_spec = tie.close (tie.spec start-requires returns)

@@ -10,5 +10,5 @@ start-requires c κs = search rules
 returns : tie.Need-returns
 returns c = simp c.start.ensures
 
-pub started-priority-spec : {M : Type 1} → statement M
-started-priority-spec = tie.close (tie.spec start-requires returns)
+pub started_priority_spec : {M : Type 1} → statement M
+started_priority_spec = tie.close (tie.spec start-requires returns)

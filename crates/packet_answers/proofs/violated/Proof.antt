@@ -7,5 +7,5 @@ use Rattle.packet_answers.proofs.violated.Tie as tie
 returns : tie.Need-returns
 returns c = refl
 
-pub violated-spec : {M : Type 1} → statement M
-violated-spec = tie.close (tie.spec returns)
+pub violated_spec : {M : Type 1} → statement M
+violated_spec = tie.close (tie.spec returns)

@@ -17,5 +17,5 @@ returns c = simp (sym c.before.is-right-crc.ensures ∙ c.if1.true, ← c.before
 returns-2 : tie.Need-returns-2
 returns-2 c = simp (sym c.before.is-right-crc.ensures ∙ c.if1.false, ← c.before.before.register-in.ensures)
 
-pub end-event-spec : {M : Type 1} → statement M
-end-event-spec = tie.close (tie.spec register-in-requires is-right-crc-requires returns returns-2)
+pub end_event_spec : {M : Type 1} → statement M
+end_event_spec = tie.close (tie.spec register-in-requires is-right-crc-requires returns returns-2)

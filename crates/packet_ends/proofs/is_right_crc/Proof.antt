@@ -20,5 +20,5 @@ returns c = simp (← c.before.check-bytes.ensures, eq-eqb _ _ c.if1.true)
 returns-2 : tie.Need-returns-2
 returns-2 c = simp (← c.before.check-bytes.ensures, ne_eqb _ _ c.if1.false)
 
-pub is-right-crc-spec : {M : Type 1} → statement M
-is-right-crc-spec = tie.close (tie.spec check-bytes-requires array-read-if1 array-read-result returns returns-2)
+pub is_right_crc_spec : {M : Type 1} → statement M
+is_right_crc_spec = tie.close (tie.spec check-bytes-requires array-read-if1 array-read-result returns returns-2)

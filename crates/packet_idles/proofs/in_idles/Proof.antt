@@ -2,7 +2,7 @@
 -- Assumes nothing.
 use borrow.Author.Rules.{rules}
 use borrow.Author.Tests.{le-leb, lt-leb}
-use Rattle.packet_idles.specs.Idles.{idleOf}
+use Rattle.packet_idles.specs.Idles.{idle_of}
 use Rattle.packet_idles.proofs.in_idles.Statement.{statement}
 use Rattle.packet_idles.proofs.in_idles.Tie as tie
 
@@ -55,38 +55,38 @@ violated-requires-6 : tie.Need-violated-requires-6
 violated-requires-6 c κs = search rules
 
 returns : tie.Need-returns
-unfolding idleOf
+unfolding idle_of
 returns c = simp (c.violated.ensures, c.before.enum_told.given.1)
 
 returns-2 : tie.Need-returns-2
-unfolding idleOf
+unfolding idle_of
 returns-2 c = simp (c.moved.ensures, le-leb _ _ c.before.if1.true, c.before.before.enum-told2.given.1)
 
 returns-3 : tie.Need-returns-3
-unfolding idleOf
+unfolding idle_of
 returns-3 c = simp (c.moved2.ensures, lt-leb _ _ c.before.if1.false, c.before.before.enum-told2.given.1)
 
 returns-4 : tie.Need-returns-4
-unfolding idleOf
+unfolding idle_of
 returns-4 c = simp (c.violated2.ensures, c.before.enum-told3.given.1)
 
 returns-5 : tie.Need-returns-5
-unfolding idleOf
+unfolding idle_of
 returns-5 c = simp (c.violated3.ensures, c.before.enum-told4.given.1)
 
 returns-6 : tie.Need-returns-6
-unfolding idleOf
+unfolding idle_of
 returns-6 c = simp (c.violated4.ensures, c.before.enum-told5.given.1)
 
 returns-7 : tie.Need-returns-7
-unfolding idleOf
+unfolding idle_of
 returns-7 c = simp (c.violated5.ensures, c.before.enum-told6.given.1)
 
 returns-8 : tie.Need-returns-8
-unfolding idleOf
+unfolding idle_of
 returns-8 c = simp (c.violated6.ensures, c.before.enum-told7.given.1)
 
-pub in-idles-spec : {M : Type 1} → statement M
-in-idles-spec =
+pub in_idles_spec : {M : Type 1} → statement M
+in_idles_spec =
     tie.close
     (tie.spec enum_told violated-requires enum-told-2 moved-requires sub-t10 moved-requires-2 enum-told-3 violated-requires-2 enum-told-4 violated-requires-3 enum-told-5 violated-requires-4 enum-told-6 violated-requires-5 enum-told-7 violated-requires-6 returns returns-2 returns-3 returns-4 returns-5 returns-6 returns-7 returns-8)

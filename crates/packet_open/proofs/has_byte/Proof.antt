@@ -25,5 +25,5 @@ returns-2 c = simp (c.before.d.given.1, c.before.before.before.enum_told.given.1
 returns-3 : tie.Need-returns-3
 returns-3 c = simp (c.enum-told2.given.1, c.before.before.enum_told.given.1)
 
-pub has-byte-spec : {M : Type 1} → statement M
-has-byte-spec = tie.close (tie.spec enum-known-p enum_told enum-known-d enum-told-2 returns returns-2 returns-3)
+pub has_byte_spec : {M : Type 1} → statement M
+has_byte_spec = tie.close (tie.spec enum-known-p enum_told enum-known-d enum-told-2 returns returns-2 returns-3)

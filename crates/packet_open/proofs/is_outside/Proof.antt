@@ -25,5 +25,5 @@ returns-2 c = simp (c.enum-told3.given.1, c.before.before.enum-told2.given.1)
 returns-3 : tie.Need-returns-3
 returns-3 c = simp (c.enum-told4.given.1, c.before.before.enum-told2.given.1)
 
-pub is-outside-spec : {M : Type 1} → statement M
-is-outside-spec = tie.close (tie.spec enum_told enum-told-2 enum-told-3 enum-told-4 returns returns-2 returns-3)
+pub is_outside_spec : {M : Type 1} → statement M
+is_outside_spec = tie.close (tie.spec enum_told enum-told-2 enum-told-3 enum-told-4 returns returns-2 returns-3)

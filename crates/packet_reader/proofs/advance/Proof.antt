@@ -1,7 +1,7 @@
 -- By the character result, and whether its symbol is one.
 -- Assumes nothing.
 use borrow.Author.Rules.{rules}
-use Rattle.packet_reader.specs.Classes.{advanceOf}
+use Rattle.packet_reader.specs.Classes.{advance_of}
 use Rattle.packet_reader.proofs.advance.Statement.{statement}
 use Rattle.packet_reader.proofs.advance.Tie as tie
 
@@ -54,7 +54,7 @@ refused-requires-3 : tie.Need-refused-requires-3
 refused-requires-3 c κs = search rules
 
 returns : tie.Need-returns
-unfolding advanceOf
+unfolding advance_of
 returns c =
     simp (
       c.clean.ensures,
@@ -64,7 +64,7 @@ returns c =
     )
 
 returns-2 : tie.Need-returns-2
-unfolding advanceOf
+unfolding advance_of
 returns-2 c =
     simp (
       c.refused.ensures,
@@ -74,7 +74,7 @@ returns-2 c =
     )
 
 returns-3 : tie.Need-returns-3
-unfolding advanceOf
+unfolding advance_of
 returns-3 c =
     simp (
       c.spoiled.ensures,
@@ -84,7 +84,7 @@ returns-3 c =
     )
 
 returns-4 : tie.Need-returns-4
-unfolding advanceOf
+unfolding advance_of
 returns-4 c =
     simp (
       c.refused2.ensures,
@@ -94,14 +94,14 @@ returns-4 c =
     )
 
 returns-5 : tie.Need-returns-5
-unfolding advanceOf
+unfolding advance_of
 returns-5 c = simp (c.spoiled2.ensures, c.before.enum-told4.given.1)
 
 returns-6 : tie.Need-returns-6
-unfolding advanceOf
+unfolding advance_of
 returns-6 c = simp (c.refused3.ensures, c.before.enum-told5.given.1)
 
-pub advance-spec : {M : Type 1} → statement M
-advance-spec =
+pub advance_spec : {M : Type 1} → statement M
+advance_spec =
     tie.close
     (tie.spec enum-known-result classify-requires enum-known-c clean-requires enum_told refused-requires enum-known-result-2 classify-requires-2 enum-told-2 spoiled-requires enum-told-3 refused-requires-2 enum-told-4 spoiled-requires-2 enum-told-5 refused-requires-3 returns returns-2 returns-3 returns-4 returns-5 returns-6)

@@ -40,7 +40,7 @@ returns-3 c = simp (c.violated3.ensures, c.before.enum-told3.given.1)
 returns-4 : tie.Need-returns-4
 returns-4 c = simp (c.moved.ensures, c.before.enum-told4.given.1)
 
-pub spoiled-spec : {M : Type 1} → statement M
-spoiled-spec =
+pub spoiled_spec : {M : Type 1} → statement M
+spoiled_spec =
     tie.close
     (tie.spec enum_told violated-requires enum-told-2 violated-requires-2 enum-told-3 violated-requires-3 enum-told-4 moved-requires returns returns-2 returns-3 returns-4)

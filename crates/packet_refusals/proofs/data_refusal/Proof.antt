@@ -8,7 +8,7 @@ use lib.ListN.{length}
 use Prim.Native.Nat.{◌+◌}
 use mir.Syntax.{w32}
 use mir.ValLaws.{to_z-of_z}
-use Rattle.character_rules.specs.Disparity.{isDisparity}
+use Rattle.character_rules.specs.Disparity.{is_disparity}
 use Rattle.packet_refusals.proofs.data_refusal.Statement.{statement}
 use Rattle.packet_refusals.proofs.data_refusal.Tie as tie
 
@@ -21,7 +21,7 @@ returns c =
     let a = b.args in
     let z = to_z-of_z w32 a.disparity b.ranges.disparity in
     let known = c.before.is-disparity.ensures in
-    let i = ap isDisparity (sym z) ∙ sym known ∙ not-true _ c.if1.true in
+    let i = ap is_disparity (sym z) ∙ sym known ∙ not-true _ c.if1.true in
     simp (
       i,
       or-true,
@@ -33,7 +33,7 @@ returns-2 c =
     let a = b.args in
     let z = to_z-of_z w32 a.disparity b.ranges.disparity in
     let known = c.before.before.is-disparity.ensures in
-    let i = ap isDisparity (sym z) ∙ sym known ∙ not-false _ c.before.if1.false in
+    let i = ap is_disparity (sym z) ∙ sym known ∙ not-false _ c.before.if1.false in
     simp (
       i,
       lt-ltb 255 a.channel c.if2.true,
@@ -45,7 +45,7 @@ returns-3 c =
     let a = b.args in
     let z = to_z-of_z w32 a.disparity b.ranges.disparity in
     let known = c.before.before.before.is-disparity.ensures in
-    let i = ap isDisparity (sym z) ∙ sym known ∙ not-false _ c.before.before.if1.false in
+    let i = ap is_disparity (sym z) ∙ sym known ∙ not-false _ c.before.before.if1.false in
     simp (
       i,
       le-ltb 255 a.channel c.before.if2.false,
@@ -61,7 +61,7 @@ returns-4 c =
     let a = b.args in
     let z = to_z-of_z w32 a.disparity b.ranges.disparity in
     let known = c.before.before.before.before.is-disparity.ensures in
-    let i = ap isDisparity (sym z) ∙ sym known ∙ not-false _ c.before.before.before.if1.false in
+    let i = ap is_disparity (sym z) ∙ sym known ∙ not-false _ c.before.before.before.if1.false in
     simp (
       i,
       le-ltb 255 a.channel c.before.before.if2.false,
@@ -75,7 +75,7 @@ returns-5 c =
     let a = b.args in
     let z = to_z-of_z w32 a.disparity b.ranges.disparity in
     let known = c.before.before.before.before.is-disparity.ensures in
-    let i = ap isDisparity (sym z) ∙ sym known ∙ not-false _ c.before.before.before.if1.false in
+    let i = ap is_disparity (sym z) ∙ sym known ∙ not-false _ c.before.before.before.if1.false in
     simp (
       i,
       le-ltb 255 a.channel c.before.before.if2.false,
@@ -83,8 +83,8 @@ returns-5 c =
       le-ltb a.room (length a.bytes.now + 6) c.if4.false,
     )
 
-pub data-refusal-spec : {M : Type 1} → statement M
-data-refusal-spec =
+pub data_refusal_spec : {M : Type 1} → statement M
+data_refusal_spec =
     tie.close
     (tie.spec
     is-disparity-requires

@@ -6,7 +6,7 @@ use borrow.Author.Rules.{rules}
 use borrow.Author.Tests.{lt-ltb, le-ltb, not-true, not-false}
 use mir.Syntax.{w32}
 use mir.ValLaws.{to_z-of_z}
-use Rattle.character_rules.specs.Disparity.{isDisparity}
+use Rattle.character_rules.specs.Disparity.{is_disparity}
 use Rattle.packet_refusals.proofs.lmp_refusal.Statement.{statement}
 use Rattle.packet_refusals.proofs.lmp_refusal.Tie as tie
 
@@ -19,7 +19,7 @@ returns c =
     let a = b.args in
     let z = to_z-of_z w32 a.disparity b.ranges.disparity in
     let known = c.before.is-disparity.ensures in
-    let i = ap isDisparity (sym z) ∙ sym known ∙ not-true _ c.if1.true in
+    let i = ap is_disparity (sym z) ∙ sym known ∙ not-true _ c.if1.true in
     simp (
       i,
       or-true,
@@ -31,7 +31,7 @@ returns-2 c =
     let a = b.args in
     let z = to_z-of_z w32 a.disparity b.ranges.disparity in
     let known = c.before.before.is-disparity.ensures in
-    let i = ap isDisparity (sym z) ∙ sym known ∙ not-false _ c.before.if1.false in
+    let i = ap is_disparity (sym z) ∙ sym known ∙ not-false _ c.before.if1.false in
     simp (
       i,
       lt-ltb 15 a.number c.if2.true,
@@ -43,7 +43,7 @@ returns-3 c =
     let a = b.args in
     let z = to_z-of_z w32 a.disparity b.ranges.disparity in
     let known = c.before.before.before.is-disparity.ensures in
-    let i = ap isDisparity (sym z) ∙ sym known ∙ not-false _ c.before.before.if1.false in
+    let i = ap is_disparity (sym z) ∙ sym known ∙ not-false _ c.before.before.if1.false in
     simp (
       i,
       le-ltb 15 a.number c.before.if2.false,
@@ -56,15 +56,15 @@ returns-4 c =
     let a = b.args in
     let z = to_z-of_z w32 a.disparity b.ranges.disparity in
     let known = c.before.before.before.is-disparity.ensures in
-    let i = ap isDisparity (sym z) ∙ sym known ∙ not-false _ c.before.before.if1.false in
+    let i = ap is_disparity (sym z) ∙ sym known ∙ not-false _ c.before.before.if1.false in
     simp (
       i,
       le-ltb 15 a.number c.before.if2.false,
       le-ltb a.room 4 c.if3.false,
     )
 
-pub lmp-refusal-spec : {M : Type 1} → statement M
-lmp-refusal-spec =
+pub lmp_refusal_spec : {M : Type 1} → statement M
+lmp_refusal_spec =
     tie.close
     (tie.spec
     is-disparity-requires

@@ -3,7 +3,7 @@
 use borrow.Author.Rules.{rules}
 use mathlib.Core.Path.{sym, ◌∙◌}
 use borrow.Author.Tests.{eq-eqb, ne_eqb}
-use Rattle.packet_sequences.specs.Sequences.{dueOf}
+use Rattle.packet_sequences.specs.Sequences.{due_of}
 use Rattle.packet_sequences.proofs.due_byte.Statement.{statement}
 use Rattle.packet_sequences.proofs.due_byte.Tie as tie
 
@@ -71,47 +71,47 @@ moved-requires-6 : tie.Need-moved-requires-6
 moved-requires-6 c κs = search rules
 
 returns : tie.Need-returns
-unfolding dueOf
+unfolding due_of
 returns c = simp (c.started-data.ensures, c.before.enum_told.given.1)
 
 returns-2 : tie.Need-returns-2
-unfolding dueOf
+unfolding due_of
 returns-2 c = simp (c.started-priority.ensures, c.before.enum-told2.given.1)
 
 returns-3 : tie.Need-returns-3
-unfolding dueOf
+unfolding due_of
 returns-3 c = simp (c.moved.ensures, eq-eqb _ _ (c.before.if1.true ∙ c.before.before.opening-byte.ensures), c.before.before.before.before.due.given.1)
 
 returns-4 : tie.Need-returns-4
-unfolding dueOf
+unfolding due_of
 returns-4 c = simp (c.violated.ensures, ne_eqb _ _ (λ e. c.before.if1.false (e ∙ sym c.before.before.opening-byte.ensures)), c.before.before.before.before.due.given.1)
 
 returns-5 : tie.Need-returns-5
-unfolding dueOf
+unfolding due_of
 returns-5 c = simp (c.moved2.ensures, c.before.before.due2.given.1)
 
 returns-6 : tie.Need-returns-6
-unfolding dueOf
+unfolding due_of
 returns-6 c = simp (c.closed.ensures, c.before.end-event.ensures, c.before.before.before.due3.given.1)
 
 returns-7 : tie.Need-returns-7
-unfolding dueOf
+unfolding due_of
 returns-7 c = simp (c.moved3.ensures, c.before.enum-told3.given.1)
 
 returns-8 : tie.Need-returns-8
-unfolding dueOf
+unfolding due_of
 returns-8 c = simp (c.moved4.ensures, c.before.before.due4.given.1)
 
 returns-9 : tie.Need-returns-9
-unfolding dueOf
+unfolding due_of
 returns-9 c = simp (c.moved5.ensures, eq-eqb _ _ c.before.before.if2.true, c.before.before.before.before.due5.given.1, c.before.lmp.ensures)
 
 returns-10 : tie.Need-returns-10
-unfolding dueOf
+unfolding due_of
 returns-10 c = simp (c.moved6.ensures, ne_eqb _ _ c.before.if2.false, c.before.before.before.due5.given.1)
 
-pub due-byte-spec : {M : Type 1} → statement M
-due-byte-spec =
+pub due_byte_spec : {M : Type 1} → statement M
+due_byte_spec =
     tie.close
     (tie.spec
     enum_told

@@ -16,5 +16,5 @@ returns-3 c = simp (lt-ltb _ _ c.before.if1.true, ne_eqb _ _ c.match.rest.1, ne_
 returns-4 : tie.Need-returns-4
 returns-4 c = simp (le-ltb _ _ c.if1.false)
 
-pub lmp-spec : {M : Type 1} → statement M
-lmp-spec = tie.close (tie.spec returns returns-2 returns-3 returns-4)
+pub lmp_spec : {M : Type 1} → statement M
+lmp_spec = tie.close (tie.spec returns returns-2 returns-3 returns-4)

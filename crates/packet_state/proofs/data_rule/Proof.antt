@@ -22,5 +22,5 @@ returns-2 c = simp (c.before.before.d.given.1, c.if1.true)
 returns-3 : tie.Need-returns-3
 returns-3 c = simp (c.before.before.before.d.given.1, c.before.if1.false, c.is-start.ensures)
 
-pub data-rule-spec : {M : Type 1} → statement M
-data-rule-spec = tie.close (tie.spec enum_told enum-known-d is-start-requires returns returns-2 returns-3)
+pub data_rule_spec : {M : Type 1} → statement M
+data_rule_spec = tie.close (tie.spec enum_told enum-known-d is-start-requires returns returns-2 returns-3)

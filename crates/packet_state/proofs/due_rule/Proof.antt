@@ -67,7 +67,7 @@ returns-7 c = simp c.enum-told7.given.1
 returns-8 : tie.Need-returns-8
 returns-8 c = simp c.enum-told8.given.1
 
-pub due-rule-spec : {M : Type 1} → statement M
-due-rule-spec =
+pub due_rule_spec : {M : Type 1} → statement M
+due_rule_spec =
     tie.close
     (tie.spec enum_told is-outside-requires enum-told-2 has-no-priority-requires enum-told-3 has-byte-requires enum-told-4 has-byte-requires-2 enum-told-5 has-byte-requires-3 enum-told-6 enum-told-7 enum-told-8 returns returns-2 returns-3 returns-4 returns-5 returns-6 returns-7 returns-8)

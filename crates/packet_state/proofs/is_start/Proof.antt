@@ -13,5 +13,5 @@ start-requires c κs = search rules
 returns : tie.Need-returns
 returns c = ap (λ (x : ℕ). eqb c.before.args.register x) c.start.ensures
 
-pub is-start-spec : {M : Type 1} → statement M
-is-start-spec = tie.close (tie.spec start-requires returns)
+pub is_start_spec : {M : Type 1} → statement M
+is_start_spec = tie.close (tie.spec start-requires returns)

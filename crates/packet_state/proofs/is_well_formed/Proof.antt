@@ -2,7 +2,7 @@
 -- Assumes nothing.
 use borrow.Author.Rules.{rules}
 use mathlib.Core.Path.{sym, ◌∙◌}
-use Rattle.packet_rules.specs.State.{wellFormed}
+use Rattle.packet_rules.specs.State.{well_formed}
 use Rattle.packet_state.proofs.is_well_formed.Statement.{statement}
 use Rattle.packet_state.proofs.is_well_formed.Tie as tie
 
@@ -22,7 +22,7 @@ phase-rule-requires : tie.Need-phase-rule-requires
 phase-rule-requires c κs = search rules
 
 returns : tie.Need-returns
-unfolding wellFormed
+unfolding well_formed
 returns c =
     simp (
       c.phase-rule.ensures,
@@ -32,7 +32,7 @@ returns c =
     )
 
 returns-2 : tie.Need-returns-2
-unfolding wellFormed
+unfolding well_formed
 returns-2 c =
     simp (
       sym c.before.priority-rule.ensures ∙ c.if3.false,
@@ -43,14 +43,14 @@ returns-2 c =
     )
 
 returns-3 : tie.Need-returns-3
-unfolding wellFormed
+unfolding well_formed
 returns-3 c = simp (sym c.before.data-rule.ensures ∙ c.if2.false, sym c.before.before.before.size-is-allowed.ensures ∙ c.before.before.if1.true)
 
 returns-4 : tie.Need-returns-4
-unfolding wellFormed
+unfolding well_formed
 returns-4 c = simp (sym c.before.size-is-allowed.ensures ∙ c.if1.false)
 
-pub is-well-formed-spec : {M : Type 1} → statement M
-is-well-formed-spec =
+pub is_well_formed_spec : {M : Type 1} → statement M
+is_well_formed_spec =
     tie.close
     (tie.spec cast-size-is-allowed size-is-allowed-requires data-rule-requires priority-rule-requires phase-rule-requires returns returns-2 returns-3 returns-4)

@@ -38,7 +38,7 @@ returns-4 c = simp (le-ltb _ _ c.if1.false, c.before.before.phase2.given.1)
 returns-5 : tie.Need-returns-5
 returns-5 c = simp (c.is-outside.ensures, c.before.enum-told2.given.1)
 
-pub phase-rule-spec : {M : Type 1} → statement M
-phase-rule-spec =
+pub phase_rule_spec : {M : Type 1} → statement M
+phase_rule_spec =
     tie.close
     (tie.spec enum_told enum-known-phase due-rule-requires enum-known-phase-2 enum-told-2 is-outside-requires returns returns-2 returns-3 returns-4 returns-5)

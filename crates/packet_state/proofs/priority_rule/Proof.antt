@@ -26,5 +26,5 @@ returns-3 c = simp (c.before.before.before.before.p.given.1, le-leb _ _ c.before
 returns-4 : tie.Need-returns-4
 returns-4 c = simp (c.before.before.p.given.1, lt-leb _ _ c.if1.false)
 
-pub priority-rule-spec : {M : Type 1} → statement M
-priority-rule-spec = tie.close (tie.spec enum_told enum-known-p is-start-requires returns returns-2 returns-3 returns-4)
+pub priority_rule_spec : {M : Type 1} → statement M
+priority_rule_spec = tie.close (tie.spec enum_told enum-known-p is-start-requires returns returns-2 returns-3 returns-4)

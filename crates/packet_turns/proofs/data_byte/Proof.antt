@@ -29,5 +29,5 @@ returns-2 c = simp (c.moved.ensures, c.before.before.enum_told.given.1, eq-eqb _
 returns-3 : tie.Need-returns-3
 returns-3 c = simp (c.violated.ensures, c.before.before.enum_told.given.1, ne_eqb _ _ c.before.match2.rest.1)
 
-pub data-byte-spec : {M : Type 1} → statement M
-data-byte-spec = tie.close (tie.spec enum-known-d step-requires enum_told moved-requires violated-requires returns returns-2 returns-3)
+pub data_byte_spec : {M : Type 1} → statement M
+data_byte_spec = tie.close (tie.spec enum-known-d step-requires enum_told moved-requires violated-requires returns returns-2 returns-3)

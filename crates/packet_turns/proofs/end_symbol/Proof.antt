@@ -39,5 +39,5 @@ returns-3 c =
       sym c.before.before.before.before.is-outside.ensures ∙ c.before.before.before.if1.false,
     )
 
-pub end-symbol-spec : {M : Type 1} → statement M
-end-symbol-spec = tie.close (tie.spec is-outside-requires violated-requires returns has-byte-requires moved-requires violated-requires-2 returns-2 returns-3)
+pub end_symbol_spec : {M : Type 1} → statement M
+end_symbol_spec = tie.close (tie.spec is-outside-requires violated-requires returns has-byte-requires moved-requires violated-requires-2 returns-2 returns-3)

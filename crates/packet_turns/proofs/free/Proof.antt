@@ -2,7 +2,7 @@
 -- Assumes nothing.
 use borrow.Author.Rules.{rules}
 use mathlib.Core.Path.{sym, ◌∙◌}
-use Rattle.packet_turns.specs.Turns.{freeOf}
+use Rattle.packet_turns.specs.Turns.{free_of}
 use Rattle.packet_turns.proofs.free.Statement.{statement}
 use Rattle.packet_turns.proofs.free.Tie as tie
 
@@ -58,19 +58,19 @@ violated-requires-3 : tie.Need-violated-requires-3
 violated-requires-3 c κs = search rules
 
 returns : tie.Need-returns
-unfolding freeOf
+unfolding free_of
 returns c = simp (c.user-byte.ensures, c.before.before.k.given.1)
 
 returns-2 : tie.Need-returns-2
-unfolding freeOf
+unfolding free_of
 returns-2 c = simp (c.moved.ensures, c.before.enum_told.given.1)
 
 returns-3 : tie.Need-returns-3
-unfolding freeOf
+unfolding free_of
 returns-3 c = simp (c.moved2.ensures, c.before.enum-told2.given.1)
 
 returns-4 : tie.Need-returns-4
-unfolding freeOf
+unfolding free_of
 returns-4 c =
     simp (
       c.moved3.ensures,
@@ -80,19 +80,19 @@ returns-4 c =
     )
 
 returns-5 : tie.Need-returns-5
-unfolding freeOf
+unfolding free_of
 returns-5 c = simp (c.violated.ensures, sym c.before.before.may-start.ensures ∙ c.before.if1.false, c.before.before.before.before.k2.given.1)
 
 returns-6 : tie.Need-returns-6
-unfolding freeOf
+unfolding free_of
 returns-6 c = simp (c.end-symbol.ensures, c.before.before.k3.given.1)
 
 returns-7 : tie.Need-returns-7
-unfolding freeOf
+unfolding free_of
 returns-7 c = simp (c.violated2.ensures, c.before.enum-told3.given.1)
 
 returns-8 : tie.Need-returns-8
-unfolding freeOf
+unfolding free_of
 returns-8 c = simp (c.violated3.ensures, c.before.enum-told4.given.1)
 
 pub free_spec : {M : Type 1} → statement M

@@ -28,5 +28,5 @@ returns-2 c = simp (c.has-no-priority.ensures, c.before.enum-told2.given.1)
 returns-3 : tie.Need-returns-3
 returns-3 c = simp c.enum-told3.given.1
 
-pub may-start-spec : {M : Type 1} → statement M
-may-start-spec = tie.close (tie.spec enum_told is-outside-requires enum-told-2 has-no-priority-requires enum-told-3 returns returns-2 returns-3)
+pub may_start_spec : {M : Type 1} → statement M
+may_start_spec = tie.close (tie.spec enum_told is-outside-requires enum-told-2 has-no-priority-requires enum-told-3 returns returns-2 returns-3)

@@ -32,5 +32,5 @@ returns-2 c = simp (c.step.ensures, lt-leb _ _ c.before.if1.false, c.before.befo
 returns-3 : tie.Need-returns-3
 returns-3 c = simp (c.data-byte.ensures, c.before.enum_told.given.1)
 
-pub user-byte-spec : {M : Type 1} → statement M
-user-byte-spec = tie.close (tie.spec enum-known-p violated-requires step-requires add-n enum_told data-byte-requires returns returns-2 returns-3)
+pub user_byte_spec : {M : Type 1} → statement M
+user_byte_spec = tie.close (tie.spec enum-known-p violated-requires step-requires add-n enum_told data-byte-requires returns returns-2 returns-3)

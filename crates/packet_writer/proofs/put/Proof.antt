@@ -5,9 +5,9 @@ use lib.ListN.{set}
 use mir.Syntax.{w32}
 use mir.ValLaws.{to_z-of_z}
 use borrow.Author.Rules.{rules}
-use Rattle.character_rules.specs.Answers.{written, notWritten, writingSays}
+use Rattle.character_rules.specs.Answers.{written, not_written, writing_says}
 use Rattle.character_rules.specs.Writing.{writing}
-use Rattle.packet_writer.proofs.Laws.{wrote_one, wrote-character, wrote-closing, not-refused}
+use Rattle.packet_writer.proofs.Laws.{wrote_one, wrote_character, wrote_closing, not_refused}
 use Rattle.packet_writer.proofs.put.Statement.{statement}
 use Rattle.packet_writer.proofs.put.Tie as tie
 
@@ -41,11 +41,11 @@ returns c =
     let n = g.0.0 in
     let e = g.0.1.0 in
     let z = to_z-of_z w32 d (search rules) in
-    let q : written n e ≡ writing a.s d = sym (ap writingSays g.1) ∙ c.before.before.before.write.ensures ∙ ap (writing a.s) z in
+    let q : written n e ≡ writing a.s d = sym (ap writing_says g.1) ∙ c.before.before.before.write.ensures ∙ ap (writing a.s) z in
     wrote_one a.p a.s a.out.now _ _ b.requires.0
-    (ap (set a.out.now a.p.at) (wrote-character a.s d b.requires.1 b.requires.2 n e q))
+    (ap (set a.out.now a.p.at) (wrote_character a.s d b.requires.1 b.requires.2 n e q))
     refl
-    (to_z-of_z w32 e (search rules) ∙ wrote-closing a.s d b.requires.1 b.requires.2 n e q)
+    (to_z-of_z w32 e (search rules) ∙ wrote_closing a.s d b.requires.1 b.requires.2 n e q)
 
 returns-2 : tie.Need-returns-2
 returns-2 c =
@@ -54,8 +54,8 @@ returns-2 c =
     let d = a.p.disparity in
     let g = c.enum_told.given in
     let z = to_z-of_z w32 d (search rules) in
-    let q : notWritten g.0.0 ≡ writing a.s d = sym (ap writingSays g.1) ∙ c.before.before.write.ensures ∙ ap (writing a.s) z in
-    absurd (not-refused a.s d b.requires.1 b.requires.2 g.0.0 q)
+    let q : not_written g.0.0 ≡ writing a.s d = sym (ap writing_says g.1) ∙ c.before.before.write.ensures ∙ ap (writing a.s) z in
+    absurd (not_refused a.s d b.requires.1 b.requires.2 g.0.0 q)
 
 pub put_spec : {M : Type 1} → statement M
 put_spec =

@@ -5,9 +5,9 @@ use lib.ListN.{length}
 use mir.Syntax.{w32}
 use mir.ValLaws.{to_z-of_z}
 use borrow.Author.Rules.{rules}
-use Rattle.character_rules.specs.Answers.{runWritten, notRunWritten, runWrittenSays}
-use Rattle.character_rules.specs.Writing.{runWriting, runStored}
-use Rattle.packet_writer.proofs.Bytes.{part, run-closing, run-wrote, run-not-refused}
+use Rattle.character_rules.specs.Answers.{run_written, not_run_written, run_written_says}
+use Rattle.character_rules.specs.Writing.{run_writing, run_stored}
+use Rattle.packet_writer.proofs.Bytes.{part, run_closing_is, run_wrote, run_not_refused}
 use Rattle.packet_writer.proofs.put_bytes.Statement.{statement}
 use Rattle.packet_writer.proofs.put_bytes.Tie as tie
 
@@ -49,12 +49,12 @@ returns c =
     let e = g.0.0 in
     let z = to_z-of_z w32 d (search rules) in
     let w = b5.write-run.ensures in
-    let q : runWritten e ≡ runWriting bs d (length (part a.p bs old s.requires.0 s.requires.1)) =
-    sym (ap runWrittenSays g.1) ∙ w.0 ∙ ap (λ x. runWriting bs x (length (part a.p bs old s.requires.0 s.requires.1))) z in
-    run-wrote a.p bs old s.requires.0 s.requires.1 _ _
-    (w.1 ∙ ap (λ x. runStored bs x (part a.p bs old s.requires.0 s.requires.1)) z)
+    let q : run_written e ≡ run_writing bs d (length (part a.p bs old s.requires.0 s.requires.1)) =
+    sym (ap run_written_says g.1) ∙ w.0 ∙ ap (λ x. run_writing bs x (length (part a.p bs old s.requires.0 s.requires.1))) z in
+    run_wrote a.p bs old s.requires.0 s.requires.1 _ _
+    (w.1 ∙ ap (λ x. run_stored bs x (part a.p bs old s.requires.0 s.requires.1)) z)
     refl
-    (to_z-of_z w32 e (search rules) ∙ run-closing a.p bs old s.requires.0 s.requires.1 e q)
+    (to_z-of_z w32 e (search rules) ∙ run_closing_is a.p bs old s.requires.0 s.requires.1 e q)
 
 same-length-2 : tie.Need-same-length-2
 same-length-2 c = search rules
@@ -68,13 +68,13 @@ returns-2 c =
     let old = a.out.now in
     let g = c.enum_told.given in
     let z = to_z-of_z w32 d (search rules) in
-    let q : notRunWritten g.0.0 ≡ runWriting bs d (length (part a.p bs old s.requires.0 s.requires.1)) =
-    sym (ap runWrittenSays g.1) ∙ b4.write-run.ensures.0
-    ∙ ap (λ x. runWriting bs x (length (part a.p bs old s.requires.0 s.requires.1))) z in
-    absurd (run-not-refused a.p bs old s.requires.0 s.requires.1 g.0.0 q)
+    let q : not_run_written g.0.0 ≡ run_writing bs d (length (part a.p bs old s.requires.0 s.requires.1)) =
+    sym (ap run_written_says g.1) ∙ b4.write-run.ensures.0
+    ∙ ap (λ x. run_writing bs x (length (part a.p bs old s.requires.0 s.requires.1))) z in
+    absurd (run_not_refused a.p bs old s.requires.0 s.requires.1 g.0.0 q)
 
-pub put-bytes-spec : {M : Type 1} → statement M
-put-bytes-spec =
+pub put_bytes_spec : {M : Type 1} → statement M
+put_bytes_spec =
     tie.close
     (tie.spec
     mul-write-run

@@ -12,7 +12,7 @@ use Rattle.symbol.specs.declared.Symbol.{Symbol}
 use Rattle.character_rules.specs.Demand.{can_write}
 use Rattle.packet_writer.specs.Writing.{symbol_of, Wrote}
 use Rattle.packet_writer.proofs.Laws.{wrote_none}
-use Rattle.packet_writer.proofs.Turns.{place_at, place-disparity, one-turn, all-at}
+use Rattle.packet_writer.proofs.Turns.{place_at, place_disparity, one_turn, all_at}
 use Rattle.packet_writer.proofs.put_symbols.Statement.{statement}
 use Rattle.packet_writer.proofs.put_symbols.Tie as tie
 
@@ -42,8 +42,8 @@ put-requires c κs =
     let h : l.i < length xs = omega arith in
     let at = place_at symbol_of b.args.p xs b.args.out.now l.i l.out l.q l.invariant.0 l.invariant.1 in (
       omega (arith, b.requires.0, at, l.invariant.2),
-      subst (λ (s : Symbol). T (can_write s)) (sym c.before.symbol-of.ensures) (all-at can_write symbol_of xs l.i b.requires.1 h),
-      place-disparity symbol_of b.args.p xs b.args.out.now l.i l.out l.q b.requires.2 l.invariant.1,
+      subst (λ (s : Symbol). T (can_write s)) (sym c.before.symbol-of.ensures) (all_at can_write symbol_of xs l.i b.requires.1 h),
+      place_disparity symbol_of b.args.p xs b.args.out.now l.i l.out l.q b.requires.2 l.invariant.1,
     )
 
 add-i : tie.Need-overflow-add-i invariant-loop decreases-loop
@@ -59,7 +59,7 @@ loop-again c =
     let xs = b.args.numbers.now in
     let h : l.i < length xs = omega arith in (
       omega arith,
-      one-turn symbol_of b.args.p xs b.args.out.now l.i h b.requires.0 l.invariant.1
+      one_turn symbol_of b.args.p xs b.args.out.now l.i h b.requires.0 l.invariant.1
           c.before.before.before.before.symbol-of.ensures c.before.before.put.ensures,
       c.before.before.put.auto.0 ∙ l.invariant.2,
     )
@@ -74,7 +74,7 @@ returns c =
     let e : take l.i xs ≡ xs = take_all l.i xs (omega arith) in
     rw e at l.invariant.1
 
-pub put-symbols-spec : {M : Type 1} → statement M
-put-symbols-spec =
+pub put_symbols_spec : {M : Type 1} → statement M
+put_symbols_spec =
     tie.close
     (tie.spec invariant-loop decreases-loop loop-holds mul-symbol-of shared-slice-read-symbol-of symbol-of-requires put-requires add-i loop-less loop-again same_length returns)

@@ -8,13 +8,13 @@ use lib.IntN.{ℤ}
 use lib.ListN.{length}
 use mir.Syntax.{w32}
 use mir.ValLaws.{to_z-of_z}
-use Rattle.laws.proofs.Bools.{true-T}
-use Rattle.refusal.specs.Order.{refusalOf}
-use Rattle.symbol.specs.Symbols.{isTwelve}
-use Rattle.character_rules.specs.Disparity.{isDisparity}
-use Rattle.packet_rules.specs.Packets.{inPriority, packetChecks, wrote}
+use Rattle.laws.proofs.Bools.{true_t}
+use Rattle.refusal.specs.Order.{refusal_of}
+use Rattle.symbol.specs.Symbols.{is_twelve}
+use Rattle.character_rules.specs.Disparity.{is_disparity}
+use Rattle.packet_rules.specs.Packets.{in_priority, packet_checks, wrote}
 use Rattle.packet_writer.proofs.Passed.{priority-passed}
-use Rattle.packet_writer.proofs.Outcome.{refused-with, priority-all}
+use Rattle.packet_writer.proofs.Outcome.{refused_with, priority_all}
 use Rattle.packet_writer.proofs.write_priority.Statement.{statement}
 use Rattle.packet_writer.proofs.write_priority.Tie as tie
 
@@ -26,20 +26,20 @@ returns c =
     let b = c.before.before.before.before in
     let a = b.args in
     let d = a.disparity in
-    let m = inPriority a.channel a.segment a.bytes.now a.bad in
+    let m = in_priority a.channel a.segment a.bytes.now a.bad in
     let z = to_z-of_z w32 d b.ranges.disparity in
-    let e = c.before.priority-refusal.ensures ∙ ap (λ (x : ℤ). refusalOf (packetChecks a.size m x (length a.out.now))) z in
-    refused-with a.size m d a.out.now _ (sym e) c.if1.true
+    let e = c.before.priority-refusal.ensures ∙ ap (λ (x : ℤ). refusal_of (packet_checks a.size m x (length a.out.now))) z in
+    refused_with a.size m d a.out.now _ (sym e) c.if1.true
 
 mul-opening : tie.Need-overflow-mul-opening
 mul-opening c =
     let b = c.before.before.before.before in
     let a = b.args in
     let d = a.disparity in
-    let m = inPriority a.channel a.segment a.bytes.now a.bad in
+    let m = in_priority a.channel a.segment a.bytes.now a.bad in
     let z = to_z-of_z w32 d b.ranges.disparity in
-    let e = c.before.priority-refusal.ensures ∙ ap (λ (x : ℤ). refusalOf (packetChecks a.size m x (length a.out.now))) z in
-    let no : refusalOf (packetChecks a.size m d (length a.out.now)) ≡ 0 = sym e ∙ c.if1.false in
+    let e = c.before.priority-refusal.ensures ∙ ap (λ (x : ℤ). refusal_of (packet_checks a.size m x (length a.out.now))) z in
+    let no : refusal_of (packet_checks a.size m d (length a.out.now)) ≡ 0 = sym e ∙ c.if1.false in
     let ok = priority-passed a.size a.channel a.segment a.bytes.now a.bad d (length a.out.now) no in
     omega (arith, ok.2)
 
@@ -48,10 +48,10 @@ add-opening c =
     let b = c.before.before.before.before in
     let a = b.args in
     let d = a.disparity in
-    let m = inPriority a.channel a.segment a.bytes.now a.bad in
+    let m = in_priority a.channel a.segment a.bytes.now a.bad in
     let z = to_z-of_z w32 d b.ranges.disparity in
-    let e = c.before.priority-refusal.ensures ∙ ap (λ (x : ℤ). refusalOf (packetChecks a.size m x (length a.out.now))) z in
-    let no : refusalOf (packetChecks a.size m d (length a.out.now)) ≡ 0 = sym e ∙ c.if1.false in
+    let e = c.before.priority-refusal.ensures ∙ ap (λ (x : ℤ). refusal_of (packet_checks a.size m x (length a.out.now))) z in
+    let no : refusal_of (packet_checks a.size m d (length a.out.now)) ≡ 0 = sym e ∙ c.if1.false in
     let ok = priority-passed a.size a.channel a.segment a.bytes.now a.bad d (length a.out.now) no in
     omega (arith, ok.1, ok.2)
 
@@ -59,17 +59,17 @@ cast-opening : tie.Need-overflow-cast-opening
 cast-opening c = search rules
 
 put-packet-requires : tie.Need-put-packet-requires
-unfolding isTwelve
+unfolding is_twelve
 put-packet-requires c κs =
     let b = c.before.before.before.before.before in
     let a = b.args in
     let d = a.disparity in
-    let m = inPriority a.channel a.segment a.bytes.now a.bad in
+    let m = in_priority a.channel a.segment a.bytes.now a.bad in
     let z = to_z-of_z w32 d b.ranges.disparity in
-    let e = c.before.before.priority-refusal.ensures ∙ ap (λ (x : ℤ). refusalOf (packetChecks a.size m x (length a.out.now))) z in
-    let no : refusalOf (packetChecks a.size m d (length a.out.now)) ≡ 0 = sym e ∙ c.before.if1.false in
+    let e = c.before.before.priority-refusal.ensures ∙ ap (λ (x : ℤ). refusal_of (packet_checks a.size m x (length a.out.now))) z in
+    let no : refusal_of (packet_checks a.size m d (length a.out.now)) ≡ 0 = sym e ∙ c.before.if1.false in
     let ok = priority-passed a.size a.channel a.segment a.bytes.now a.bad d (length a.out.now) no in
-    (omega (arith, ok.3), tt, true-T _ (ap isDisparity z ∙ ok.0))
+    (omega (arith, ok.3), tt, true_t _ (ap is_disparity z ∙ ok.0))
 
 same_length : tie.Need-same-length
 same_length c = search rules
@@ -79,20 +79,20 @@ returns-2 c =
     let b = c.before.before.before.before.before.before.before.before.before in
     let a = b.args in
     let d = a.disparity in
-    let m = inPriority a.channel a.segment a.bytes.now a.bad in
+    let m = in_priority a.channel a.segment a.bytes.now a.bad in
     let z = to_z-of_z w32 d b.ranges.disparity in
     let e = c.before.before.before.before.before.before.priority-refusal.ensures
-    ∙ ap (λ (x : ℤ). refusalOf (packetChecks a.size m x (length a.out.now))) z in
-    let no : refusalOf (packetChecks a.size m d (length a.out.now)) ≡ 0 = sym e ∙ c.before.before.before.before.before.if1.false in
+    ∙ ap (λ (x : ℤ). refusal_of (packet_checks a.size m x (length a.out.now))) z in
+    let no : refusal_of (packet_checks a.size m d (length a.out.now)) ≡ 0 = sym e ∙ c.before.before.before.before.before.if1.false in
     let ok = priority-passed a.size a.channel a.segment a.bytes.now a.bad d (length a.out.now) no in
     let h : (16 * a.segment + a.channel) % 256 ≡ 16 * a.segment + a.channel = omega (arith, ok.1, ok.2) in
     let put = c.before.before.before.put-packet in
-    let w = priority-all a.size a.channel a.segment a.bytes.now a.bad d a.out.now ((16 * a.segment + a.channel) % 256) h no
+    let w = priority_all a.size a.channel a.segment a.bytes.now a.bad d a.out.now ((16 * a.segment + a.channel) % 256) h no
     (rw z at put.ensures) in
     (ap (wrote put.result.at) (to_z-of_z w32 put.result.disparity (search rules)) ∙ w.0, w.1)
 
-pub write-priority-spec : {M : Type 1} → statement M
-write-priority-spec =
+pub write_priority_spec : {M : Type 1} → statement M
+write_priority_spec =
     tie.close
     (tie.spec
     priority-refusal-requires

@@ -39,7 +39,7 @@ use denote.Triple.Table.{entered, cited}
 use denote.Triple.Walked.{says, Stays, stay_none_slice, walk_of, Goes-none_slice, Walks, ends_at, walked, walk_Meets}
 use denote.Exit.{yes}
 use denote.Triple.Clauses.{ensured, lasts}
-use Rattle.capture_rules.specs.Calls.{Said, says as saying, characterSays}
+use Rattle.capture_rules.specs.Calls.{Said, says as saying, character_says}
 use Rattle.pane.specs.declared.Pane.{Pane}
 use Rattle.capture_rules.specs.declared.Answer.{Answer}
 use Rattle.pane.specs.contracts.Pane as T
@@ -83,7 +83,7 @@ module _ {M : Type 1} {𝓤 : Ura M} (𝓛 : Logic 𝓤) (mem : Memory → SProp
   v = slice_val s.ref_ptr (length s.now)
 
   abbrev found : Said
-  found = characterSays s.now 0
+  found = character_says s.now 0
 
   -- the struct's type as a local of a body has it
   abbrev αᵉ : NamedLft
@@ -96,31 +96,31 @@ module _ {M : Type 1} {𝓤 : Ura M} (𝓛 : Logic 𝓤) (mem : Memory → SProp
   Own = (ShrSlice (named 0) κ u8).own_val s (v ∷ [])
 
   -- the call of `open`: what it is passed, what it asks, and what is known of its result
-  abbrev to-open : (Open 𝓛 mem run).Ghost
-  to-open = (((κ, tt), (q, tt), tt, (s, tt), (v ∷ [], tt)), tt)
+  abbrev to_open : (Open 𝓛 mem run).Ghost
+  to_open = (((κ, tt), (q, tt), tt, (s, tt), (v ∷ [], tt)), tt)
 
-  goes-open : ent 𝓤 (on_entry 𝓛 first.signature (κ, tt) (q, tt) (s, tt) (v ∷ [], tt)) (sep 𝓤 ((Open 𝓛 mem run).pre to-open) (sem 𝓛 Own))
-  goes-open =
+  goes_open : ent 𝓤 (on_entry 𝓛 first.signature (κ, tt) (q, tt) (s, tt) (v ∷ [], tt)) (sep 𝓤 ((Open 𝓛 mem run).pre to_open) (sem 𝓛 Own))
+  goes_open =
       qed 𝓛 ((‵ (flft κ q) ⊛ ‵ ftrue) ∷ ‵ (owns (ShrSlice (named 0) κ u8 ∷ []) (s, tt) (v ∷ [], tt)) ∷ []) ∵
       move ! (1 ∷ []) $ fsplit ! $ use1 𝓛 (‵ Own ⊛ ‵ Own) ((shr_slice_copy 𝓛 (named 0) κ u8).twice s (v ∷ [])) $ split ! $
       move ! (0 ∷ 2 ∷ []) $ fjoin ! $ move ! (2 ∷ 0 ∷ []) $
-      use2 𝓛 (raw ((Open 𝓛 mem run).pre to-open)) (qed 𝓛 ((‵ (flft κ q) ⊛ ‵ ftrue) ∷ ‵ (owns (ShrSlice (named 0) κ u8 ∷ []) (s, tt) (v ∷ [], tt)) ∷ []) ∵
+      use2 𝓛 (raw ((Open 𝓛 mem run).pre to_open)) (qed 𝓛 ((‵ (flft κ q) ⊛ ‵ ftrue) ∷ ‵ (owns (ShrSlice (named 0) κ u8 ∷ []) (s, tt) (v ∷ [], tt)) ∷ []) ∵
       join ! $ frame ! $ done !) $ frame ! $ done !
 
   open_said : (r : Pane) → ent 𝓤 (ensured 𝓛 open·.ended (open·.clauses 𝓛 mem run) (κ, tt) (s, tt) tt r) (fact 𝓤 ((r.capture ≡ s) × (r.place ≡ 0)))
   open_said r = ex_e 𝓤 _ (λ ws. snd∗ 𝓤 (sem 𝓛 (lasts open·.ended (κ, tt) (s, tt) ws)) (fact 𝓤 ((r.capture ≡ s) × (r.place ≡ 0))))
 
   -- the call of `here`, at the struct r with the machine value u
-  abbrev to-here : Pane → Val → (Here 𝓛 mem run).Ghost
-  to-here r u = (((κ, tt), (q, tt), tt, (r, tt), (u ∷ [], tt)), tt)
+  abbrev to_here : Pane → Val → (Here 𝓛 mem run).Ghost
+  to_here r u = (((κ, tt), (q, tt), tt, (r, tt), (u ∷ [], tt)), tt)
 
-  goes-here : (r : Pane) (u : Val) → ent 𝓤 (⋆ 𝓛 (‵ ((B (κ, tt)).own_val r (u ∷ [])) ∷ (‵ (flft κ q) ⊛ ‵ ftrue) ∷ [])) ((Here 𝓛 mem run).pre (to-here r u))
-  goes-here r u = qed 𝓛 (‵ ((B (κ, tt)).own_val r (u ∷ [])) ∷ (‵ (flft κ q) ⊛ ‵ ftrue) ∷ []) ∵ nothing ! $ move ! (1 ∷ 0 ∷ []) $ fjoin ! $ move ! (1 ∷ 0 ∷ []) $
+  goes_here : (r : Pane) (u : Val) → ent 𝓤 (⋆ 𝓛 (‵ ((B (κ, tt)).own_val r (u ∷ [])) ∷ (‵ (flft κ q) ⊛ ‵ ftrue) ∷ [])) ((Here 𝓛 mem run).pre (to_here r u))
+  goes_here r u = qed 𝓛 (‵ ((B (κ, tt)).own_val r (u ∷ [])) ∷ (‵ (flft κ q) ⊛ ‵ ftrue) ∷ []) ∵ nothing ! $ move ! (1 ∷ 0 ∷ []) $ fjoin ! $ move ! (1 ∷ 0 ∷ []) $
       join ! $ frame ! $ done !
 
-  here-said : (r : Pane) (t : Answer)
-      → ent 𝓤 (ensured 𝓛 here.ended (here.clauses 𝓛 mem run) (κ, tt) (r, tt) tt t) (fact 𝓤 (saying t ≡ characterSays r.capture.now r.place))
-  here-said r t = ex_e 𝓤 _ (λ ws. snd∗ 𝓤 (sem 𝓛 (lasts here.ended (κ, tt) (r, tt) ws)) (fact 𝓤 (saying t ≡ characterSays r.capture.now r.place)))
+  here_said : (r : Pane) (t : Answer)
+      → ent 𝓤 (ensured 𝓛 here.ended (here.clauses 𝓛 mem run) (κ, tt) (r, tt) tt t) (fact 𝓤 (saying t ≡ character_says r.capture.now r.place))
+  here_said r t = ex_e 𝓤 _ (λ ws. snd∗ 𝓤 (sem 𝓛 (lasts here.ended (κ, tt) (r, tt) ws)) (fact 𝓤 (saying t ≡ character_says r.capture.now r.place)))
 
   exits : (t : Answer) (u : Val) → saying t ≡ found → ent 𝓤 (⋆ 𝓛 (‵ ((S.the_row).own_val t (u ∷ [])) ∷ (‵ (flft κ q) ⊛ ‵ ftrue) ∷ ‵ Own ∷ [])) (Post u)
   exits t u e =
@@ -137,8 +137,8 @@ module _ {M : Type 1} {𝓤 : Ura M} (𝓛 : Logic 𝓤) (mem : Memory → SProp
         qed 𝓛 (raw (on_entry 𝓛 first.signature (κ, tt) (q, tt) (s, tt) (v ∷ [], tt)) ∷ []) ∵ enter ! C Λ code.function (v ∷ []) _ $
         alloc1 ! (λ l₀. alloc1 ! (λ l₁. alloc1 ! (λ l₂. alloc0 ! $ params1 ! $
         pass1 ! (init ! 2 refl ((shr_slice_Lawful 𝓛 (named 0) κ u8).typed s (v ∷ []) p).0) $ pass0 ! $
-        move ! (6 ∷ []) $ use1 𝓛 (raw ((Open 𝓛 mem run).pre to-open) ⊛ ‵ Own) goes-open $ split ! $
-        calls_at ! fm (Open 𝓛 mem run) known-open to-open (and_then ! (load ! (from ! (stop !)) (look ! 4 refl)) (no_more !)) (λ u.
+        move ! (6 ∷ []) $ use1 𝓛 (raw ((Open 𝓛 mem run).pre to_open) ⊛ ‵ Own) goes_open $ split ! $
+        calls_at ! fm (Open 𝓛 mem run) known-open to_open (and_then ! (load ! (from ! (stop !)) (look ! 4 refl)) (no_more !)) (λ u.
         use1 𝓛 (later (some (λ (r : Pane). ((‵ (flft κ q) ⊛ ‵ ftrue) ⊛ ‵ ((B (κ, tt)).own_val r (u ∷ []))) ⊛
         raw (ensured 𝓛 open·.ended (open·.clauses 𝓛 mem run) (κ, tt) (s, tt) tt r)))) (id⊢ 𝓤 _) $ await ! tt $ pick ! (λ r.
         split ! $ move ! (1 ∷ []) $ use1 𝓛 (raw (fact 𝓤 ((r.capture ≡ s) × (r.place ≡ 0)))) (open_said r) $
@@ -146,18 +146,18 @@ module _ {M : Type 1} {𝓤 : Ura M} (𝓛 : Logic 𝓤) (mem : Memory → SProp
         -- [what the struct owns; the token; what s owns; room for _2; …; _1; …; room for _0; …]
         peeks ! (B (κ, tt)) (Is (B (κ, tt))) (shows 𝓛 (B (κ, tt))) r (u ∷ []) (λ is.
         land ! (from ! (stop !)) (init ! 3 refl ((LL.lawful (T.the_type αᵉ) (T'.the_laws αᵉ) 𝓛).typed r _ is).0) $
-        use2 𝓛 (raw ((Here 𝓛 mem run).pre (to-here r u))) (goes-here r u) $
-        calls_at ! fm (Here 𝓛 mem run) known-here (to-here r u) (and_then ! (load ! (from ! (stop !)) (look ! 2 refl)) (no_more !)) (λ u'.
+        use2 𝓛 (raw ((Here 𝓛 mem run).pre (to_here r u))) (goes_here r u) $
+        calls_at ! fm (Here 𝓛 mem run) known-here (to_here r u) (and_then ! (load ! (from ! (stop !)) (look ! 2 refl)) (no_more !)) (λ u'.
         use1 𝓛 (later (some (λ (t : Answer). ((‵ (flft κ q) ⊛ ‵ ftrue) ⊛ ‵ ((S.the_row).own_val t (u' ∷ []))) ⊛
         raw (ensured 𝓛 here.ended (here.clauses 𝓛 mem run) (κ, tt) (r, tt) tt t)))) (id⊢ 𝓤 _) $ await ! tt $ pick ! (λ t.
-        split ! $ move ! (1 ∷ []) $ use1 𝓛 (raw (fact 𝓤 (saying t ≡ characterSays r.capture.now r.place))) (here-said r t) $
-        heard ! (saying t ≡ characterSays r.capture.now r.place) (λ e'. split ! $ move ! (1 ∷ []) $
+        split ! $ move ! (1 ∷ []) $ use1 𝓛 (raw (fact 𝓤 (saying t ≡ character_says r.capture.now r.place))) (here_said r t) $
+        heard ! (saying t ≡ character_says r.capture.now r.place) (λ e'. split ! $ move ! (1 ∷ []) $
         -- [the result; the token; what s owns; _2; …; _1; …; room for _0; …]
         peeks ! S.the_row (Is S.the_row) (shows 𝓛 S.the_row) t (u' ∷ []) (λ is'.
         land ! (from ! (stop !)) (init ! 7 refl ((EL.lawful S.the_type S'.the_laws 𝓛 tt).typed t _ is').0) $
         returns ! (look ! 7 refl) $ forget ! 3 refl $ forget ! 5 refl $ forget ! 7 refl $ move ! (7 ∷ 8 ∷ []) $ free1 ! $ move ! (5 ∷ 6 ∷ []) $ free1 ! $
         move ! (3 ∷ 4 ∷ []) $ free1 ! $ free0 ! $
-        by ! (exits t u' (e' ∙ (ap (λ (x : Bor (List ℕ)). characterSays x.now r.place) e.0 ∙ ap (characterSays s.now) e.1))))))))))))))
+        by ! (exits t u' (e' ∙ (ap (λ (x : Bor (List ℕ)). character_says x.now r.place) e.0 ∙ ap (character_says s.now) e.1))))))))))))))
 
 module _ {M : Type 1} {𝓤 : Ura M} (𝓛 : Logic 𝓤) (mem : Memory → SProp 𝓤) (run : Routine → Fun 𝓤) where
   open 𝓛 use {H}
@@ -168,10 +168,10 @@ module _ {M : Type 1} {𝓤 : Ura M} (𝓛 : Logic 𝓤) (mem : Memory → SProp
       (λ κs. (shr_slice_vals, tt)) (λ κs. (shr_slice_Tells (named 0) κs.0 u8, tt))
       (λ κs qs bounds a g are. via 𝓤 _ (fst∗ 𝓤 _ (emp 𝓤)) (walk 𝓛 mem run κs.0 qs.0 a.0 C Λ fm known-open known-here are.0))
 
-first-meets : {M : Type 1} {𝓤 : Ura M} (𝓛 : Logic 𝓤) (mem : Memory → SProp 𝓤) (run : Routine → Fun 𝓤) (𝓣 : Tables 𝓤 𝓛.H)
+first_meets : {M : Type 1} {𝓤 : Ura M} (𝓛 : Logic 𝓤) (mem : Memory → SProp 𝓤) (run : Routine → Fun 𝓤) (𝓣 : Tables 𝓤 𝓛.H)
     → Triple 𝓤 (𝓣.C #open) (Open 𝓛 mem run) → Triple 𝓤 (𝓣.C #here) (Here 𝓛 mem run)
     → Meets 𝓛 first.signature (WpFn 𝓤 𝓛.H 𝓣.C 𝓣.Λ code.function) (first.spec 𝓛 mem run)
-first-meets {𝓤 = 𝓤} 𝓛 mem run 𝓣 known-open known-here = walk_Meets 𝓛 first.ended stayed (Goes-none_slice 𝓛 1 (0 ∷ []) tt (plain (λ _. u8)) yes, tt)
+first_meets {𝓤 = 𝓤} 𝓛 mem run 𝓣 known-open known-here = walk_Meets 𝓛 first.ended stayed (Goes-none_slice 𝓛 1 (0 ∷ []) tt (plain (λ _. u8)) yes, tt)
     (first.clauses 𝓛 mem run) (WpFn 𝓤 𝓛.H 𝓣.C 𝓣.Λ code.function) (WpFn-mono 𝓤 𝓛.H 𝓛.laws 𝓣 code.function)
     (first_walks 𝓛 mem run 𝓣.C 𝓣.Λ (fm_of 𝓤 𝓛.H 𝓛.laws 𝓣) known-open known-here)
 
@@ -180,6 +180,6 @@ unfolding code.routine tables_of
 first_spec 𝓤 𝓛 𝓜 𝓡 =
     entered 𝓤 𝓛.H (triple_of 𝓛 first.signature (first.spec 𝓛 𝓜.mem 𝓡.run))
     (tables 𝓤 𝓛.H 𝓜 𝓡 code.env).C (tables 𝓤 𝓛.H 𝓜 𝓡 code.env).Λ #this code.function (code.unfolded 𝓤 𝓛.H 𝓜 𝓡)
-    (first-meets 𝓛 𝓜.mem 𝓡.run (tables_of 𝓤 𝓛.H 𝓜 (tables 𝓤 𝓛.H 𝓜 𝓡 code.env))
+    (first_meets 𝓛 𝓜.mem 𝓡.run (tables_of 𝓤 𝓛.H 𝓜 (tables 𝓤 𝓛.H 𝓜 𝓡 code.env))
     (cited 𝓤 𝓛.H (Open 𝓛 𝓜.mem 𝓡.run) 𝓜 𝓡 code.env #open open-def.routine code.calls-pane::open (open-thm.met 𝓤 𝓛 𝓜 𝓡))
     (cited 𝓤 𝓛.H (Here 𝓛 𝓜.mem 𝓡.run) 𝓜 𝓡 code.env #here here-def.routine code.calls-pane::here (here-thm.met 𝓤 𝓛 𝓜 𝓡)))

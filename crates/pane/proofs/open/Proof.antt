@@ -93,19 +93,19 @@ module _ {M : Type 1} {𝓤 : Ura M} (𝓛 : Logic 𝓤) (mem : Memory → SProp
 module _ {M : Type 1} {𝓤 : Ura M} (𝓛 : Logic 𝓤) (mem : Memory → SProp 𝓤) (run : Routine → Fun 𝓤) where
   open 𝓛 use {H}
 
-  open-walks : (C : Calls 𝓤 H) (Λ : Loops 𝓤 H) → Walks 𝓛 open·.ended stayed (WpFn 𝓤 H C Λ code.function) (open·.clauses 𝓛 mem run)
-  open-walks C Λ = walked 𝓛 open·.ended stayed (open·.clauses 𝓛 mem run) (WpFn 𝓤 H C Λ code.function) (λ κs. (shr_slice_vals, tt))
+  open_walks : (C : Calls 𝓤 H) (Λ : Loops 𝓤 H) → Walks 𝓛 open·.ended stayed (WpFn 𝓤 H C Λ code.function) (open·.clauses 𝓛 mem run)
+  open_walks C Λ = walked 𝓛 open·.ended stayed (open·.clauses 𝓛 mem run) (WpFn 𝓤 H C Λ code.function) (λ κs. (shr_slice_vals, tt))
       (λ κs. (shr_slice_Tells (named 0) κs.0 u8, tt))
       (λ κs qs bounds a g are. via 𝓤 _ (fst∗ 𝓤 _ (emp 𝓤)) (walk 𝓛 mem run κs.0 qs.0 a.0 C Λ are.0))
 
-open-meets : {M : Type 1} {𝓤 : Ura M} (𝓛 : Logic 𝓤) → (mem : Memory → SProp 𝓤) (run : Routine → Fun 𝓤) (𝓣 : Tables 𝓤 𝓛.H)
+open_meets : {M : Type 1} {𝓤 : Ura M} (𝓛 : Logic 𝓤) → (mem : Memory → SProp 𝓤) (run : Routine → Fun 𝓤) (𝓣 : Tables 𝓤 𝓛.H)
     → Meets 𝓛 open·.signature (WpFn 𝓤 𝓛.H 𝓣.C 𝓣.Λ code.function) (open·.spec 𝓛 mem run)
-open-meets {𝓤 = 𝓤} 𝓛 mem run 𝓣 = walk_Meets 𝓛 open·.ended stayed (Goes-none_slice 𝓛 1 (0 ∷ []) tt (plain (λ _. u8)) yes, tt)
-    (open·.clauses 𝓛 mem run) (WpFn 𝓤 𝓛.H 𝓣.C 𝓣.Λ code.function) (WpFn-mono 𝓤 𝓛.H 𝓛.laws 𝓣 code.function) (open-walks 𝓛 mem run 𝓣.C 𝓣.Λ)
+open_meets {𝓤 = 𝓤} 𝓛 mem run 𝓣 = walk_Meets 𝓛 open·.ended stayed (Goes-none_slice 𝓛 1 (0 ∷ []) tt (plain (λ _. u8)) yes, tt)
+    (open·.clauses 𝓛 mem run) (WpFn 𝓤 𝓛.H 𝓣.C 𝓣.Λ code.function) (WpFn-mono 𝓤 𝓛.H 𝓛.laws 𝓣 code.function) (open_walks 𝓛 mem run 𝓣.C 𝓣.Λ)
 
 pub open_spec : {M : Type 1} → stated.statement M
 unfolding code.routine tables_of
 open_spec 𝓤 𝓛 𝓜 𝓡 =
     entered 𝓤 𝓛.H (triple_of 𝓛 open·.signature (open·.spec 𝓛 𝓜.mem 𝓡.run))
     (tables 𝓤 𝓛.H 𝓜 𝓡 code.env).C (tables 𝓤 𝓛.H 𝓜 𝓡 code.env).Λ #this code.function (code.unfolded 𝓤 𝓛.H 𝓜 𝓡)
-    (open-meets 𝓛 𝓜.mem 𝓡.run (tables_of 𝓤 𝓛.H 𝓜 (tables 𝓤 𝓛.H 𝓜 𝓡 code.env)))
+    (open_meets 𝓛 𝓜.mem 𝓡.run (tables_of 𝓤 𝓛.H 𝓜 (tables 𝓤 𝓛.H 𝓜 𝓡 code.env)))

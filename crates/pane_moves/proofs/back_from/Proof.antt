@@ -4,9 +4,9 @@ use borrow.Author.Rules.{rules}
 use borrow.Author.Tests.{not-true, not-false}
 use mathlib.Core.Path.{sym, ◌∙◌}
 use native.Mathlib.Omega.{arith}
-use Rattle.laws.proofs.Bools.{true-T}
-use Rattle.capture_rules.proofs.Packing.{legal-size}
-use Rattle.capture_rules.proofs.Panes.{back-illegal, back-outside, back-moves, back-at-start}
+use Rattle.laws.proofs.Bools.{true_t}
+use Rattle.capture_rules.proofs.Packing.{legal_size}
+use Rattle.capture_rules.proofs.Panes.{back_illegal, back_outside, back_moves, back_at_start}
 use Rattle.pane_moves.proofs.back_from.Statement.{statement}
 use Rattle.pane_moves.proofs.back_from.Tie as tie
 
@@ -17,23 +17,23 @@ stay-requires : tie.Need-stay-requires
 stay-requires c κs = search rules
 
 returns : tie.Need-returns
-returns c = c.stay.ensures ∙ sym (back-illegal _ _ (sym c.before.before.is-legal.ensures ∙ not-true _ c.before.if1.true))
+returns c = c.stay.ensures ∙ sym (back_illegal _ _ (sym c.before.before.is-legal.ensures ∙ not-true _ c.before.if1.true))
 
 mul-if2 : tie.Need-overflow-mul-if2
-mul-if2 c = let h = legal-size _ (true-T _ (sym c.before.is-legal.ensures ∙ not-false _ c.if1.false)) in omega arith
+mul-if2 c = let h = legal_size _ (true_t _ (sym c.before.is-legal.ensures ∙ not-false _ c.if1.false)) in omega arith
 
 stay-requires-2 : tie.Need-stay-requires-2
 stay-requires-2 c κs = search rules
 
 returns-2 : tie.Need-returns-2
 returns-2 c = c.stay2.ensures
-    ∙ sym (back-outside _ _ (sym c.before.before.before.is-legal.ensures ∙ not-false _ c.before.before.if1.false) c.before.if2.true)
+    ∙ sym (back_outside _ _ (sym c.before.before.before.is-legal.ensures ∙ not-false _ c.before.before.if1.false) c.before.if2.true)
 
 sub-t8 : tie.Need-overflow-sub-t8
 sub-t8 c = search rules
 
 returns-3 : tie.Need-returns-3
-returns-3 c = sym (back-moves _ _ (sym c.before.before.before.is-legal.ensures ∙ not-false _ c.before.before.if1.false) c.before.if2.false
+returns-3 c = sym (back_moves _ _ (sym c.before.before.before.is-legal.ensures ∙ not-false _ c.before.before.if1.false) c.before.if2.false
     c.if3.true)
 
 stay-requires-3 : tie.Need-stay-requires-3
@@ -41,8 +41,8 @@ stay-requires-3 c κs = search rules
 
 returns-4 : tie.Need-returns-4
 returns-4 c = c.stay3.ensures
-    ∙ sym (back-at-start _ _ (sym c.before.before.before.before.is-legal.ensures ∙ not-false _ c.before.before.before.if1.false)
+    ∙ sym (back_at_start _ _ (sym c.before.before.before.before.is-legal.ensures ∙ not-false _ c.before.before.before.if1.false)
     c.before.before.if2.false c.before.if3.false)
 
-pub back-from-spec : {M : Type 1} → statement M
-back-from-spec = tie.close (tie.spec is-legal-requires stay-requires returns mul-if2 stay-requires-2 returns-2 sub-t8 returns-3 stay-requires-3 returns-4)
+pub back_from_spec : {M : Type 1} → statement M
+back_from_spec = tie.close (tie.spec is-legal-requires stay-requires returns mul-if2 stay-requires-2 returns-2 sub-t8 returns-3 stay-requires-3 returns-4)

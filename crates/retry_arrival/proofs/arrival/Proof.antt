@@ -3,8 +3,8 @@
 use borrow.Author.Rules.{rules}
 use mathlib.Core.Path.{sym, ◌∙◌}
 use native.Mathlib.Omega.{arith}
-use Rattle.retry_parts.proofs.Fitting.{laid-where}
-use Rattle.retry_arrival.proofs.Arriving.{Arrival, Passed, passed, fits-output, fits-length, refused-arrival, delivers, no_room, repeated, unexpected}
+use Rattle.retry_parts.proofs.Fitting.{laid_where}
+use Rattle.retry_arrival.proofs.Arriving.{Arrival, Passed, passed, fits_output, fits_length, refused_arrival_lem, delivers, no_room, repeated, unexpected}
 use Rattle.retry_arrival.proofs.arrival.Statement.{statement}
 use Rattle.retry_arrival.proofs.arrival.Tie as tie
 
@@ -33,7 +33,7 @@ refused-requires c κs = search rules
 
 returns : tie.Need-returns
 returns c =
-    refused-arrival (call c.before.before.before.before.before) _ _ c.before.before.arrival-refusal.ensures c.before.if1.true
+    refused_arrival_lem (call c.before.before.before.before.before) _ _ c.before.before.arrival-refusal.ensures c.before.if1.true
     c.refused.ensures
 
 cast-k : tie.Need-overflow-cast-k
@@ -43,12 +43,12 @@ lay-requires : tie.Need-lay-requires
 lay-requires c κs = search rules
 
 cast-delivered : tie.Need-overflow-cast-delivered
-cast-delivered c = omega (arith, (seen c.before.before.before.before.before.before.before).channel-lt)
+cast-delivered c = omega (arith, (seen c.before.before.before.before.before.before.before).channel_lt)
 
 cast-delivered-2 : tie.Need-overflow-cast-delivered-2
 cast-delivered-2 c = omega (
   arith,
-  fits-length (call c.before.before.before.before.before.before.before.before.before.before.before)
+  fits_length (call c.before.before.before.before.before.before.before.before.before.before.before)
       (seen c.before.before.before.before.before.before.before),
 )
 
@@ -63,9 +63,9 @@ returns-2 c =
     delivers (call c.before.before.before.before.before.before.before.before.before.before.before.before)
     (seen c.before.before.before.before.before.before.before.before) _ _
     c.before.before.before.before.before.before.if2.true c.before.before.before.before.before.if3.true
-    c.delivered.ensures (c.before.before.before.lay.ensures.1 ∙ laid-where _ 0 _ (omega (
+    c.delivered.ensures (c.before.before.before.lay.ensures.1 ∙ laid_where _ 0 _ (omega (
       arith,
-      fits-output (call c.before.before.before.before.before.before.before.before.before.before.before.before)
+      fits_output (call c.before.before.before.before.before.before.before.before.before.before.before.before)
           (seen c.before.before.before.before.before.before.before.before) c.before.before.before.before.before.before.if2.true
           c.before.before.before.before.before.if3.true,
     )))
@@ -98,7 +98,7 @@ returns-5 c =
     (seen c.before.before.before.before.before) _ c.before.before.before.if2.false
     (sym c.before.before.among-last.ensures ∙ c.before.if4.false) c.nack2.ensures
 
-pub arrival-spec : {M : Type 1} → statement M
-arrival-spec =
+pub arrival_spec : {M : Type 1} → statement M
+arrival_spec =
     tie.close
     (tie.spec arrival-refusal-requires refused-requires returns cast-k lay-requires cast-delivered cast-delivered-2 delivered-requires same_length returns-2 nack-requires returns-3 among-last-requires undelivered-requires returns-4 nack-requires-2 returns-5)

@@ -13,5 +13,5 @@ one-more-requires c κs = search rules
 returns : tie.Need-returns
 returns c = simp (c.one_more.ensures, c.before.after.ensures)
 
-pub delivered-spec : {M : Type 1} → statement M
-delivered-spec = tie.close (tie.spec after-requires one-more-requires returns)
+pub delivered_spec : {M : Type 1} → statement M
+delivered_spec = tie.close (tie.spec after-requires one-more-requires returns)

@@ -14,5 +14,5 @@ returns c = simp (eq-eqb _ _ c.if1.true)
 returns-2 : tie.Need-returns-2
 returns-2 c = simp (ne_eqb _ _ c.if1.false)
 
-pub is-wanted-spec : {M : Type 1} → statement M
-is-wanted-spec = tie.close (tie.spec cast-if1 returns returns-2)
+pub is_wanted_spec : {M : Type 1} → statement M
+is_wanted_spec = tie.close (tie.spec cast-if1 returns returns-2)

@@ -3,10 +3,10 @@
 use borrow.Author.Rules.{rules}
 use mathlib.Core.Path.{refl, sym, ◌∙◌}
 use native.Mathlib.Omega.{arith}
-use Rattle.retry_rules.specs.Refused.{refusedSender}
-use Rattle.retry_rules.specs.Fresh.{resetChecks, resetOf}
-use Rattle.segment_size.proofs.Ranges.{size-range}
-use Rattle.retry_rules.proofs.Seen.{reset-seen}
+use Rattle.retry_rules.specs.Refused.{refused_sender}
+use Rattle.retry_rules.specs.Fresh.{reset_checks, reset_of}
+use Rattle.segment_size.proofs.Ranges.{size_range}
+use Rattle.retry_rules.proofs.Seen.{reset_seen}
 use Rattle.retry_parts.proofs.Calls.{refuses, works}
 use Rattle.retry_beginning.proofs.reset.Statement.{statement}
 use Rattle.retry_beginning.proofs.reset.Tie as tie
@@ -15,34 +15,34 @@ reset-refusal-requires : tie.Need-reset-refusal-requires
 reset-refusal-requires c κs = search rules
 
 returns : tie.Need-returns
-unfolding resetOf
+unfolding reset_of
 returns c =
     let a = c.before.before.args in
-    refuses (resetChecks a.sender a.columns a.size) _ c.before.reset-refusal.ensures (refusedSender a.sender) _ c.if1.true refl
+    refuses (reset_checks a.sender a.columns a.size) _ c.before.reset-refusal.ensures (refused_sender a.sender) _ c.if1.true refl
 
 cast-sender-with : tie.Need-overflow-cast-sender-with
-unfolding resetOf
+unfolding reset_of
 cast-sender-with c =
     let a = c.before.before.args in
-    let h = reset-seen a.sender a.columns a.size (sym c.before.reset-refusal.ensures ∙ c.if1.false) in
+    let h = reset_seen a.sender a.columns a.size (sym c.before.reset-refusal.ensures ∙ c.if1.false) in
     omega (arith, h.most)
 
 cast-sender-with-2 : tie.Need-overflow-cast-sender-with-2
-unfolding resetOf
+unfolding reset_of
 cast-sender-with-2 c =
     let a = c.before.before.args in
-    let h = reset-seen a.sender a.columns a.size (sym c.before.reset-refusal.ensures ∙ c.if1.false) in
-    omega (arith, size-range a.size h.size)
+    let h = reset_seen a.sender a.columns a.size (sym c.before.reset-refusal.ensures ∙ c.if1.false) in
+    omega (arith, size_range a.size h.size)
 
 sender-with-requires : tie.Need-sender-with-requires
 sender-with-requires c κs = search rules
 
 returns-2 : tie.Need-returns-2
-unfolding resetOf
+unfolding reset_of
 returns-2 c =
     let a = c.before.before.before.args in
-    works (resetChecks a.sender a.columns a.size) _ c.before.before.reset-refusal.ensures (refusedSender a.sender) _
+    works (reset_checks a.sender a.columns a.size) _ c.before.before.reset-refusal.ensures (refused_sender a.sender) _
     c.before.if1.false (simp c.sender-with.ensures)
 
-pub reset-spec : {M : Type 1} → statement M
-reset-spec = tie.close (tie.spec reset-refusal-requires returns cast-sender-with cast-sender-with-2 sender-with-requires returns-2)
+pub reset_spec : {M : Type 1} → statement M
+reset_spec = tie.close (tie.spec reset-refusal-requires returns cast-sender-with cast-sender-with-2 sender-with-requires returns-2)

@@ -7,5 +7,5 @@ use Rattle.retry_beginning.proofs.sender_with.Tie as tie
 returns : tie.Need-returns
 returns c = search rules
 
-pub sender-with-spec : {M : Type 1} → statement M
-sender-with-spec = tie.close (tie.spec returns)
+pub sender_with_spec : {M : Type 1} → statement M
+sender_with_spec = tie.close (tie.spec returns)

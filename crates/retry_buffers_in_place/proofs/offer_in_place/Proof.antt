@@ -46,8 +46,8 @@ use denote.Triple.Table.{entered, cited}
 use denote.Triple.Walked.{says, Stays, stay_ref, stay_none, gave_slice, stay_none_slice, walk_of, AllGo}
 use denote.Triple.Walked.{Goes-none, Goes-ref, Goes-gave_slice, Goes-none_slice, Walks, ends_at, walked, walk_Meets}
 use denote.Exit.{yes}
-use Rattle.retry_rules.specs.Offer.{offerOf, offerBuffers}
-use Rattle.retry_buffers_in_place.specs.Beside.{offerBeside}
+use Rattle.retry_rules.specs.Offer.{offer_of, offer_buffers}
+use Rattle.retry_buffers_in_place.specs.Beside.{offer_beside}
 use Rattle.retry_rules.specs.declared.Sender.{Sender}
 use Rattle.retry_rules.specs.declared.Offered.{Offered}
 use Rattle.retry_rules.specs.contracts.Sender as T
@@ -111,8 +111,8 @@ module _ {M : Type 1} {𝓤 : Ura M} (𝓛 : Logic 𝓤) (at_mem : Memory → SP
   Post = (walk_of 𝓛 thin.ended stayed (thin.clauses 𝓛 at_mem run)).post (((κ, (κ₁, (κ₂, tt))), (q, (q₁, (q₂, tt))), tt, x, at), tt)
 
   -- what is left of the answer is made of its parts
-  beside : (r : Offered) {v : Val} → Is S.the_row r (v ∷ []) → Is U.the_row (offerBeside r) (LL.vals U.the_type U'.the_laws (offerBeside r))
-  beside r is = LL.owes U.the_type U'.the_laws (offerBeside r) ((LL.owed S.the_type S'.the_laws r _ is).0, ((LL.owed S.the_type S'.the_laws r _ is).1.0, tt))
+  beside : (r : Offered) {v : Val} → Is S.the_row r (v ∷ []) → Is U.the_row (offer_beside r) (LL.vals U.the_type U'.the_laws (offer_beside r))
+  beside r is = LL.owes U.the_type U'.the_laws (offer_beside r) ((LL.owed S.the_type S'.the_laws r _ is).0, ((LL.owed S.the_type S'.the_laws r _ is).1.0, tt))
 
   -- what the two slices own
   abbrev My : Fml
@@ -150,21 +150,21 @@ module _ {M : Type 1} {𝓤 : Ura M} (𝓛 : Logic 𝓤) (at_mem : Memory → SP
 
   -- what the call says of its answer and of the last list of the run that it writes to
   abbrev Said : Offered → List ℕ → Type 0
-  Said r ws = (r ≡ offerOf h (length y.now) p2 p3 (length z.now)) × (ws ≡ offerBuffers h y.now p2 z.now)
+  Said r ws = (r ≡ offer_of h (length y.now) p2 p3 (length z.now)) × (ws ≡ offer_buffers h y.now p2 z.now)
 
-  exits : (r : Offered) (ws : List ℕ) → Said r ws → length ws ≡ length y.now → Is U.the_row (offerBeside r) (LL.vals U.the_type U'.the_laws (offerBeside r))
+  exits : (r : Offered) (ws : List ℕ) → Said r ws → length ws ≡ length y.now → Is U.the_row (offer_beside r) (LL.vals U.the_type U'.the_laws (offer_beside r))
       → ent 𝓤 (⋆ 𝓛 (‵ (fobs γ ((T.the_row).coded.code r.sender)) ∷ ‵ (fbor κ (Body (mem T.the_row) b o γ)) ∷ ‵ (flft κ q) ∷
-      (‵ (flft κ₁ q₁) ⊛ ‵ (flft κ₂ q₂) ⊛ ‵ ftrue) ∷ ‵ (finally u8 y.name ws) ∷ ‵ Mz ∷ [])) (Post (LL.val U.the_type U'.the_laws (offerBeside r)))
+      (‵ (flft κ₁ q₁) ⊛ ‵ (flft κ₂ q₂) ⊛ ‵ ftrue) ∷ ‵ (finally u8 y.name ws) ∷ ‵ Mz ∷ [])) (Post (LL.val U.the_type U'.the_laws (offer_beside r)))
   exits r ws e l told =
       qed 𝓛 (‵ (fobs γ ((T.the_row).coded.code r.sender)) ∷ ‵ (fbor κ (Body (mem T.the_row) b o γ)) ∷ ‵ (flft κ q) ∷
       (‵ (flft κ₁ q₁) ⊛ ‵ (flft κ₂ q₂) ⊛ ‵ ftrue) ∷ ‵ (finally u8 y.name ws) ∷ ‵ Mz ∷ []) ∵
       suffices ! _ (ends_at 𝓛 thin.ended stayed (thin.clauses 𝓛 at_mem run) (((κ, (κ₁, (κ₂, tt))), (q, (q₁, (q₂, tt))), tt, x, at), tt)
-      (LL.val U.the_type U'.the_laws (offerBeside r)) (offerBeside r) (r.sender, (ws, (tt, (tt, (tt, tt))))) (tt, (l, (tt, (tt, (tt, tt)))))) $
-      says ! (ap offerBeside e.0, ap (λ (a : Offered). a.sender) e.0, e.1) $ move ! (2 ∷ 3 ∷ []) $ join ! $ frame ! $
+      (LL.val U.the_type U'.the_laws (offer_beside r)) (offer_beside r) (r.sender, (ws, (tt, (tt, (tt, tt))))) (tt, (l, (tt, (tt, (tt, tt)))))) $
+      says ! (ap offer_beside e.0, ap (λ (a : Offered). a.sender) e.0, e.1) $ move ! (2 ∷ 3 ∷ []) $ join ! $ frame ! $
       feq_i ! (List Val) (vptr b o ∷ []) (vptr b o ∷ []) refl $ fjoin3 ! $ nothing ! $ move ! (3 ∷ 0 ∷ []) $ fjoin ! $
       owned ! bool (Is bool) (bool_Makes 𝓛) p3 _ refl $ fjoin ! $ owned ! u32 (Is u32) (uint_Makes 𝓛 w32) p2 _ (refl, ok-p2) $ fjoin ! $
       move ! (2 ∷ 0 ∷ []) $ fjoin ! $ move ! (1 ∷ 0 ∷ []) $ fjoin ! $
-      owned ! U.the_row (Is U.the_row) ((LL.makes U.the_type U'.the_plain) 𝓛) (offerBeside r) _ told $ move ! (1 ∷ 0 ∷ []) $ done !
+      owned ! U.the_row (Is U.the_row) ((LL.makes U.the_type U'.the_plain) 𝓛) (offer_beside r) _ told $ move ! (1 ∷ 0 ∷ []) $ done !
 
   module _ (C : Calls 𝓤 H) (Λ : Loops 𝓤 H) (fm : FmC 𝓤 H 𝓛.laws C) (known : Triple 𝓤 (C #callee) (Callee 𝓛 at_mem run)) where
     walk : ent 𝓤 (on_entry 𝓛 thin.signature (κ, (κ₁, (κ₂, tt))) (q, (q₁, (q₂, tt))) x at)
@@ -207,7 +207,7 @@ module _ {M : Type 1} {𝓤 : Ura M} (𝓛 : Logic 𝓤) (at_mem : Memory → SP
         (store ! 5 refl ((LL.lawful T.the_type T'.the_laws 𝓛).typed r.sender _ (LL.owed S.the_type S'.the_laws r _ is).1.1.0).0) $
         assigns ! (agg ! (and_then ! (load ! (from ! (fld ! refl (stop !))) (look_in ! 16 (sub ! 0 refl (whole !))))
         (and_then ! (load ! (from ! (fld ! refl (stop !))) (look_in ! 16 (sub ! 1 refl (whole !)))) (no_more !)))) (from ! (stop !))
-        (init ! 28 refl ((LL.lawful U.the_type U'.the_laws 𝓛).typed (offerBeside r) _ (beside r is)).0) $
+        (init ! 28 refl ((LL.lawful U.the_type U'.the_laws 𝓛).typed (offer_beside r) _ (beside r is)).0) $
         -- the borrow is closed at the answer's sender
         drop ! $ move ! (4 ∷ 6 ∷ 7 ∷ 8 ∷ []) $ closed ! tt r.sender b o (LL.owed S.the_type S'.the_laws r _ is).1.1.0 $
         -- [obs; the borrow; the token; the slices' tokens; the last list; …; Mz; …; the locals, the last first]
@@ -221,9 +221,9 @@ module _ {M : Type 1} {𝓤 : Ura M} (𝓛 : Logic 𝓤) (at_mem : Memory → SP
 module _ {M : Type 1} {𝓤 : Ura M} (𝓛 : Logic 𝓤) (at_mem : Memory → SProp 𝓤) (run : Routine → Fun 𝓤) where
   open 𝓛 use {H}
 
-  thin-walks : (C : Calls 𝓤 H) (Λ : Loops 𝓤 H) → FmC 𝓤 H 𝓛.laws C → Triple 𝓤 (C #callee) (Callee 𝓛 at_mem run)
+  thin_walks : (C : Calls 𝓤 H) (Λ : Loops 𝓤 H) → FmC 𝓤 H 𝓛.laws C → Triple 𝓤 (C #callee) (Callee 𝓛 at_mem run)
       → Walks 𝓛 thin.ended stayed (WpFn 𝓤 H C Λ code.function) (thin.clauses 𝓛 at_mem run)
-  thin-walks C Λ fm known =
+  thin_walks C Λ fm known =
       walked 𝓛 thin.ended stayed (thin.clauses 𝓛 at_mem run) (WpFn 𝓤 H C Λ code.function)
       (λ κs. (shr_vals, (shr_slice_vals, (uint_vals w32, (bool_vals, (shr_slice_vals, tt)))))) (λ κs. (
         mut_Tells (named 0) κs.0 T.the_row,
@@ -248,18 +248,18 @@ module _ {M : Type 1} {𝓤 : Ura M} (𝓛 : Logic 𝓤) (at_mem : Memory → SP
     ),
   )
 
-thin-meets : {M : Type 1} {𝓤 : Ura M} (𝓛 : Logic 𝓤) → (at_mem : Memory → SProp 𝓤) (run : Routine → Fun 𝓤) (𝓣 : Tables 𝓤 𝓛.H)
+thin_meets : {M : Type 1} {𝓤 : Ura M} (𝓛 : Logic 𝓤) → (at_mem : Memory → SProp 𝓤) (run : Routine → Fun 𝓤) (𝓣 : Tables 𝓤 𝓛.H)
     → Triple 𝓤 (𝓣.C #callee) (Callee 𝓛 at_mem run)
     → Meets 𝓛 thin.signature (WpFn 𝓤 𝓛.H 𝓣.C 𝓣.Λ code.function) (thin.spec 𝓛 at_mem run)
-thin-meets {𝓤 = 𝓤} 𝓛 at_mem run 𝓣 known =
+thin_meets {𝓤 = 𝓤} 𝓛 at_mem run 𝓣 known =
     walk_Meets 𝓛 thin.ended stayed (all_go 𝓛 at_mem run) (thin.clauses 𝓛 at_mem run) (WpFn 𝓤 𝓛.H 𝓣.C 𝓣.Λ code.function)
     (WpFn-mono 𝓤 𝓛.H 𝓛.laws 𝓣 code.function)
-    (thin-walks 𝓛 at_mem run 𝓣.C 𝓣.Λ (fm_of 𝓤 𝓛.H 𝓛.laws 𝓣) known)
+    (thin_walks 𝓛 at_mem run 𝓣.C 𝓣.Λ (fm_of 𝓤 𝓛.H 𝓛.laws 𝓣) known)
 
-pub offer-in-place-spec : {M : Type 1} → stated.statement M
+pub offer_in_place_spec : {M : Type 1} → stated.statement M
 unfolding code.routine tables_of
-offer-in-place-spec 𝓤 𝓛 𝓜 𝓡 =
+offer_in_place_spec 𝓤 𝓛 𝓜 𝓡 =
     entered 𝓤 𝓛.H (triple_of 𝓛 thin.signature (thin.spec 𝓛 𝓜.mem 𝓡.run))
     (tables 𝓤 𝓛.H 𝓜 𝓡 code.env).C (tables 𝓤 𝓛.H 𝓜 𝓡 code.env).Λ #thin code.function (code.unfolded 𝓤 𝓛.H 𝓜 𝓡)
-    (thin-meets 𝓛 𝓜.mem 𝓡.run (tables_of 𝓤 𝓛.H 𝓜 (tables 𝓤 𝓛.H 𝓜 𝓡 code.env))
+    (thin_meets 𝓛 𝓜.mem 𝓡.run (tables_of 𝓤 𝓛.H 𝓜 (tables 𝓤 𝓛.H 𝓜 𝓡 code.env))
     (cited 𝓤 𝓛.H (Callee 𝓛 𝓜.mem 𝓡.run) 𝓜 𝓡 code.env #callee callee-def.routine code.calls-retry-offer::offer (callee-thm.met 𝓤 𝓛 𝓜 𝓡)))

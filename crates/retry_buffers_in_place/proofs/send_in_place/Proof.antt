@@ -44,8 +44,8 @@ use denote.Triple.Table.{entered, cited}
 use denote.Triple.Walked.{says, Stays, stay_ref, gave_slice, stay_none_slice, walk_of, AllGo}
 use denote.Triple.Walked.{Goes-ref, Goes-gave_slice, Goes-none_slice, Walks, ends_at, walked, walk_Meets}
 use denote.Exit.{yes}
-use Rattle.retry_rules.specs.Send.{sendOf, sendOutput}
-use Rattle.retry_buffers_in_place.specs.Beside.{sendBeside}
+use Rattle.retry_rules.specs.Send.{send_of, send_output}
+use Rattle.retry_buffers_in_place.specs.Beside.{send_beside}
 use Rattle.retry_rules.specs.declared.Sender.{Sender}
 use Rattle.retry_rules.specs.declared.Sent.{Sent}
 use Rattle.retry_rules.specs.contracts.Sender as T
@@ -97,8 +97,8 @@ module _ {M : Type 1} {𝓤 : Ura M} (𝓛 : Logic 𝓤) (at_mem : Memory → SP
   Post = (walk_of 𝓛 thin.ended stayed (thin.clauses 𝓛 at_mem run)).post (((κ, (κ₁, (κ₂, tt))), (q, (q₁, (q₂, tt))), tt, x, at), tt)
 
   -- what is left of the answer is made of its parts
-  beside : (r : Sent) {v : Val} → Is S.the_row r (v ∷ []) → Is U.the_row (sendBeside r) (LL.vals U.the_type U'.the_laws (sendBeside r))
-  beside r is = LL.owes U.the_type U'.the_laws (sendBeside r) (
+  beside : (r : Sent) {v : Val} → Is S.the_row r (v ∷ []) → Is U.the_row (send_beside r) (LL.vals U.the_type U'.the_laws (send_beside r))
+  beside r is = LL.owes U.the_type U'.the_laws (send_beside r) (
     (LL.owed S.the_type S'.the_laws r _ is).0,
     (
       (LL.owed S.the_type S'.the_laws r _ is).1.0,
@@ -143,20 +143,20 @@ module _ {M : Type 1} {𝓤 : Ura M} (𝓛 : Logic 𝓤) (at_mem : Memory → SP
 
   -- what the call says of its answer and of the last list of the run that it writes to
   abbrev Said : Sent → List ℕ → Type 0
-  Said r ws = (r ≡ sendOf h (length z.now) (length y.now)) × (ws ≡ sendOutput h z.now y.now)
+  Said r ws = (r ≡ send_of h (length z.now) (length y.now)) × (ws ≡ send_output h z.now y.now)
 
-  exits : (r : Sent) (ws : List ℕ) → Said r ws → length ws ≡ length y.now → Is U.the_row (sendBeside r) (LL.vals U.the_type U'.the_laws (sendBeside r))
+  exits : (r : Sent) (ws : List ℕ) → Said r ws → length ws ≡ length y.now → Is U.the_row (send_beside r) (LL.vals U.the_type U'.the_laws (send_beside r))
       → ent 𝓤 (⋆ 𝓛 (‵ (fobs γ ((T.the_row).coded.code r.sender)) ∷ ‵ (fbor κ (Body (mem T.the_row) b o γ)) ∷ ‵ (flft κ q) ∷
-      (‵ (flft κ₁ q₁) ⊛ ‵ (flft κ₂ q₂) ⊛ ‵ ftrue) ∷ ‵ (finally u8 y.name ws) ∷ ‵ Mz ∷ [])) (Post (LL.val U.the_type U'.the_laws (sendBeside r)))
+      (‵ (flft κ₁ q₁) ⊛ ‵ (flft κ₂ q₂) ⊛ ‵ ftrue) ∷ ‵ (finally u8 y.name ws) ∷ ‵ Mz ∷ [])) (Post (LL.val U.the_type U'.the_laws (send_beside r)))
   exits r ws e l told =
       qed 𝓛 (‵ (fobs γ ((T.the_row).coded.code r.sender)) ∷ ‵ (fbor κ (Body (mem T.the_row) b o γ)) ∷ ‵ (flft κ q) ∷
       (‵ (flft κ₁ q₁) ⊛ ‵ (flft κ₂ q₂) ⊛ ‵ ftrue) ∷ ‵ (finally u8 y.name ws) ∷ ‵ Mz ∷ []) ∵
       suffices ! _ (ends_at 𝓛 thin.ended stayed (thin.clauses 𝓛 at_mem run) (((κ, (κ₁, (κ₂, tt))), (q, (q₁, (q₂, tt))), tt, x, at), tt)
-      (LL.val U.the_type U'.the_laws (sendBeside r)) (sendBeside r) (r.sender, (tt, (ws, tt))) (tt, (tt, (l, tt)))) $
-      says ! (ap sendBeside e.0, ap (λ (a : Sent). a.sender) e.0, e.1) $ move ! (2 ∷ 3 ∷ []) $ join ! $ frame ! $
+      (LL.val U.the_type U'.the_laws (send_beside r)) (send_beside r) (r.sender, (tt, (ws, tt))) (tt, (tt, (l, tt)))) $
+      says ! (ap send_beside e.0, ap (λ (a : Sent). a.sender) e.0, e.1) $ move ! (2 ∷ 3 ∷ []) $ join ! $ frame ! $
       feq_i ! (List Val) (vptr b o ∷ []) (vptr b o ∷ []) refl $ fjoin3 ! $ nothing ! $ move ! (2 ∷ 0 ∷ []) $ fjoin ! $ move ! (2 ∷ 0 ∷ []) $ fjoin ! $
       move ! (1 ∷ 0 ∷ []) $ fjoin ! $
-      owned ! U.the_row (Is U.the_row) ((LL.makes U.the_type U'.the_plain) 𝓛) (sendBeside r) _ told $ move ! (1 ∷ 0 ∷ []) $ done !
+      owned ! U.the_row (Is U.the_row) ((LL.makes U.the_type U'.the_plain) 𝓛) (send_beside r) _ told $ move ! (1 ∷ 0 ∷ []) $ done !
 
   module _ (C : Calls 𝓤 H) (Λ : Loops 𝓤 H) (fm : FmC 𝓤 H 𝓛.laws C) (known : Triple 𝓤 (C #callee) (Callee 𝓛 at_mem run)) where
     walk : ent 𝓤 (on_entry 𝓛 thin.signature (κ, (κ₁, (κ₂, tt))) (q, (q₁, (q₂, tt))) x at) (WpFn 𝓤 H C Λ code.function (vptr b o ∷ sz ∷ sy ∷ []) Post)
@@ -199,7 +199,7 @@ module _ {M : Type 1} {𝓤 : Ura M} (𝓛 : Logic 𝓤) (at_mem : Memory → SP
         (and_then ! (load ! (from ! (fld ! refl (stop !))) (look_in ! 16 (sub ! 3 refl (whole !))))
         (and_then ! (load ! (from ! (fld ! refl (stop !))) (look_in ! 16 (sub ! 4 refl (whole !))))
         (and_then ! (load ! (from ! (fld ! refl (stop !))) (look_in ! 16 (sub ! 5 refl (whole !)))) (no_more !)))))))) (from ! (stop !))
-        (init ! 24 refl ((LL.lawful U.the_type U'.the_laws 𝓛).typed (sendBeside r) _ (beside r is)).0) $
+        (init ! 24 refl ((LL.lawful U.the_type U'.the_laws 𝓛).typed (send_beside r) _ (beside r is)).0) $
         -- the borrow is closed at the answer's sender
         drop ! $ move ! (4 ∷ 6 ∷ 7 ∷ 8 ∷ []) $ closed ! tt r.sender b o (LL.owed S.the_type S'.the_laws r _ is).1.1.1.1.1.1.0 $
         -- [obs; the borrow; the token; the slices' tokens; the last list; …; Mz; …; the locals, the last first]
@@ -212,9 +212,9 @@ module _ {M : Type 1} {𝓤 : Ura M} (𝓛 : Logic 𝓤) (at_mem : Memory → SP
 module _ {M : Type 1} {𝓤 : Ura M} (𝓛 : Logic 𝓤) (at_mem : Memory → SProp 𝓤) (run : Routine → Fun 𝓤) where
   open 𝓛 use {H}
 
-  thin-walks : (C : Calls 𝓤 H) (Λ : Loops 𝓤 H) → FmC 𝓤 H 𝓛.laws C → Triple 𝓤 (C #callee) (Callee 𝓛 at_mem run)
+  thin_walks : (C : Calls 𝓤 H) (Λ : Loops 𝓤 H) → FmC 𝓤 H 𝓛.laws C → Triple 𝓤 (C #callee) (Callee 𝓛 at_mem run)
       → Walks 𝓛 thin.ended stayed (WpFn 𝓤 H C Λ code.function) (thin.clauses 𝓛 at_mem run)
-  thin-walks C Λ fm known =
+  thin_walks C Λ fm known =
       walked 𝓛 thin.ended stayed (thin.clauses 𝓛 at_mem run) (WpFn 𝓤 H C Λ code.function) (λ κs. (shr_vals, (shr_slice_vals, (shr_slice_vals, tt))))
       (λ κs. (mut_Tells (named 0) κs.0 T.the_row, (shr_slice_Tells (named 1) κs.1.0 u8, (mut_slice_Tells (named 2) κs.1.1.0 u8, tt))))
       (λ κs qs bounds a _ are. via 𝓤 _ (fst∗ 𝓤 _ (emp 𝓤))
@@ -230,18 +230,18 @@ module _ {M : Type 1} {𝓤 : Ura M} (𝓛 : Logic 𝓤) (at_mem : Memory → SP
     ),
   )
 
-thin-meets : {M : Type 1} {𝓤 : Ura M} (𝓛 : Logic 𝓤) → (at_mem : Memory → SProp 𝓤) (run : Routine → Fun 𝓤) (𝓣 : Tables 𝓤 𝓛.H)
+thin_meets : {M : Type 1} {𝓤 : Ura M} (𝓛 : Logic 𝓤) → (at_mem : Memory → SProp 𝓤) (run : Routine → Fun 𝓤) (𝓣 : Tables 𝓤 𝓛.H)
     → Triple 𝓤 (𝓣.C #callee) (Callee 𝓛 at_mem run)
     → Meets 𝓛 thin.signature (WpFn 𝓤 𝓛.H 𝓣.C 𝓣.Λ code.function) (thin.spec 𝓛 at_mem run)
-thin-meets {𝓤 = 𝓤} 𝓛 at_mem run 𝓣 known =
+thin_meets {𝓤 = 𝓤} 𝓛 at_mem run 𝓣 known =
     walk_Meets 𝓛 thin.ended stayed (all_go 𝓛 at_mem run) (thin.clauses 𝓛 at_mem run) (WpFn 𝓤 𝓛.H 𝓣.C 𝓣.Λ code.function)
     (WpFn-mono 𝓤 𝓛.H 𝓛.laws 𝓣 code.function)
-    (thin-walks 𝓛 at_mem run 𝓣.C 𝓣.Λ (fm_of 𝓤 𝓛.H 𝓛.laws 𝓣) known)
+    (thin_walks 𝓛 at_mem run 𝓣.C 𝓣.Λ (fm_of 𝓤 𝓛.H 𝓛.laws 𝓣) known)
 
-pub send-in-place-spec : {M : Type 1} → stated.statement M
+pub send_in_place_spec : {M : Type 1} → stated.statement M
 unfolding code.routine tables_of
-send-in-place-spec 𝓤 𝓛 𝓜 𝓡 =
+send_in_place_spec 𝓤 𝓛 𝓜 𝓡 =
     entered 𝓤 𝓛.H (triple_of 𝓛 thin.signature (thin.spec 𝓛 𝓜.mem 𝓡.run))
     (tables 𝓤 𝓛.H 𝓜 𝓡 code.env).C (tables 𝓤 𝓛.H 𝓜 𝓡 code.env).Λ #thin code.function (code.unfolded 𝓤 𝓛.H 𝓜 𝓡)
-    (thin-meets 𝓛 𝓜.mem 𝓡.run (tables_of 𝓤 𝓛.H 𝓜 (tables 𝓤 𝓛.H 𝓜 𝓡 code.env))
+    (thin_meets 𝓛 𝓜.mem 𝓡.run (tables_of 𝓤 𝓛.H 𝓜 (tables 𝓤 𝓛.H 𝓜 𝓡 code.env))
     (cited 𝓤 𝓛.H (Callee 𝓛 𝓜.mem 𝓡.run) 𝓜 𝓡 code.env #callee callee-def.routine code.calls-retry-send::send (callee-thm.met 𝓤 𝓛 𝓜 𝓡)))

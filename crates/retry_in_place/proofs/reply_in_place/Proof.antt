@@ -42,7 +42,7 @@ use denote.Triple.Spec.{Meets, triple_of}
 use denote.Triple.Table.{entered, cited}
 use denote.Triple.Walked.{says, Stays, stay_ref, stay_none, walk_of, AllGo, Goes-none, Goes-ref, Walks, ends_at, walked, walk_Meets}
 use denote.Exit.{yes}
-use Rattle.retry_rules.specs.Reply.{replyOf}
+use Rattle.retry_rules.specs.Reply.{reply_of}
 use Rattle.retry_rules.specs.declared.Sender.{Sender}
 use Rattle.retry_rules.specs.declared.Answered.{Answered}
 use Rattle.retry_rules.specs.contracts.Sender as T
@@ -94,10 +94,10 @@ module _ {M : Type 1} {𝓤 : Ura M} (𝓛 : Logic 𝓤) (at_mem : Memory → SP
       fjoin ! $
       move ! (1 ∷ 0 ∷ []) $ join ! $ frame ! $ done !
 
-  said : (r : Answered) → ent 𝓤 (ensured 𝓛 callee.ended (callee.clauses 𝓛 at_mem run) tt (h, (p1, (p2, tt))) tt r) (fact 𝓤 (r ≡ replyOf h p1 p2))
-  said r = ex_e 𝓤 _ (λ ws. snd∗ 𝓤 (sem 𝓛 (lasts callee.ended tt (h, (p1, (p2, tt))) ws)) (fact 𝓤 (r ≡ replyOf h p1 p2)))
+  said : (r : Answered) → ent 𝓤 (ensured 𝓛 callee.ended (callee.clauses 𝓛 at_mem run) tt (h, (p1, (p2, tt))) tt r) (fact 𝓤 (r ≡ reply_of h p1 p2))
+  said r = ex_e 𝓤 _ (λ ws. snd∗ 𝓤 (sem 𝓛 (lasts callee.ended tt (h, (p1, (p2, tt))) ws)) (fact 𝓤 (r ≡ reply_of h p1 p2)))
 
-  exits : (r : Answered) → r ≡ replyOf h p1 p2 → r.refusal < 2 ^ 8
+  exits : (r : Answered) → r ≡ reply_of h p1 p2 → r.refusal < 2 ^ 8
       → ent 𝓤 (sep 𝓤 (A.obs γ ((T.the_row).coded.code r.sender)) (sep 𝓤 (A.bor κ (Body (mem T.the_row) b o γ)) (A.lft κ q)))
       (Post (vint w8 r.refusal))
   exits r e told =
@@ -128,7 +128,7 @@ module _ {M : Type 1} {𝓤 : Ura M} (𝓛 : Logic 𝓤) (at_mem : Memory → SP
         (and_then ! (load ! (from ! (stop !)) (look ! 14 refl)) (and_then ! (load ! (from ! (stop !)) (look ! 12 refl)) (no_more !)))) (λ v.
         use1 𝓛 (later (some (λ (r : Answered). (‵ ftrue ⊛ ‵ ((S.the_row).own_val r (v ∷ []))) ⊛
         raw (ensured 𝓛 callee.ended (callee.clauses 𝓛 at_mem run) tt (h, (p1, (p2, tt))) tt r)))) (id⊢ 𝓤 _) $ await ! tt $ pick ! (λ r.
-        split ! $ move ! (1 ∷ []) $ use1 𝓛 (raw (fact 𝓤 (r ≡ replyOf h p1 p2))) (said r) $ heard ! (r ≡ replyOf h p1 p2) (λ e. split ! $ drop ! $
+        split ! $ move ! (1 ∷ []) $ use1 𝓛 (raw (fact 𝓤 (r ≡ reply_of h p1 p2))) (said r) $ heard ! (r ≡ reply_of h p1 p2) (λ e. split ! $ drop ! $
         peeks ! S.the_row (Is S.the_row) (shows 𝓛 S.the_row) r (v ∷ []) (λ is.
         land ! (from ! (stop !)) (init ! 10 refl ((LL.lawful S.the_type S'.the_laws 𝓛).typed r _ is).0) $
         rewrite ! 10 (λ (u : Val). ‵ (fat full_share S'.mir l4 0 u)) (ap only (LL.tells S.the_type S'.the_laws r _ is)) refl $
@@ -146,9 +146,9 @@ module _ {M : Type 1} {𝓤 : Ura M} (𝓛 : Logic 𝓤) (at_mem : Memory → SP
 module _ {M : Type 1} {𝓤 : Ura M} (𝓛 : Logic 𝓤) (at_mem : Memory → SProp 𝓤) (run : Routine → Fun 𝓤) where
   open 𝓛 use {H}
 
-  thin-walks : (C : Calls 𝓤 H) (Λ : Loops 𝓤 H) → FmC 𝓤 H 𝓛.laws C → Triple 𝓤 (C #callee) (Callee 𝓛 at_mem run)
+  thin_walks : (C : Calls 𝓤 H) (Λ : Loops 𝓤 H) → FmC 𝓤 H 𝓛.laws C → Triple 𝓤 (C #callee) (Callee 𝓛 at_mem run)
       → Walks 𝓛 thin.ended stayed (WpFn 𝓤 H C Λ code.function) (thin.clauses 𝓛 at_mem run)
-  thin-walks C Λ fm known =
+  thin_walks C Λ fm known =
       walked 𝓛 thin.ended stayed (thin.clauses 𝓛 at_mem run) (WpFn 𝓤 H C Λ code.function) (λ κs. (mut_vals, (bool_vals, (uint_vals w32, tt))))
       (λ κs. (mut_Tells (named 0) κs.0 T.the_row, (bool_Tells, (uint_Tells w32, tt))))
       (λ κs qs bounds a _ are. via 𝓤 _ (fst∗ 𝓤 _ (emp 𝓤))
@@ -166,18 +166,18 @@ module _ {M : Type 1} {𝓤 : Ura M} (𝓛 : Logic 𝓤) (at_mem : Memory → SP
     ),
   )
 
-thin-meets : {M : Type 1} {𝓤 : Ura M} (𝓛 : Logic 𝓤) → (at_mem : Memory → SProp 𝓤) (run : Routine → Fun 𝓤) (𝓣 : Tables 𝓤 𝓛.H)
+thin_meets : {M : Type 1} {𝓤 : Ura M} (𝓛 : Logic 𝓤) → (at_mem : Memory → SProp 𝓤) (run : Routine → Fun 𝓤) (𝓣 : Tables 𝓤 𝓛.H)
     → Triple 𝓤 (𝓣.C #callee) (Callee 𝓛 at_mem run)
     → Meets 𝓛 thin.signature (WpFn 𝓤 𝓛.H 𝓣.C 𝓣.Λ code.function) (thin.spec 𝓛 at_mem run)
-thin-meets {𝓤 = 𝓤} 𝓛 at_mem run 𝓣 known =
+thin_meets {𝓤 = 𝓤} 𝓛 at_mem run 𝓣 known =
     walk_Meets 𝓛 thin.ended stayed (all_go 𝓛 at_mem run) (thin.clauses 𝓛 at_mem run) (WpFn 𝓤 𝓛.H 𝓣.C 𝓣.Λ code.function)
     (WpFn-mono 𝓤 𝓛.H 𝓛.laws 𝓣 code.function)
-    (thin-walks 𝓛 at_mem run 𝓣.C 𝓣.Λ (fm_of 𝓤 𝓛.H 𝓛.laws 𝓣) known)
+    (thin_walks 𝓛 at_mem run 𝓣.C 𝓣.Λ (fm_of 𝓤 𝓛.H 𝓛.laws 𝓣) known)
 
-pub reply-in-place-spec : {M : Type 1} → stated.statement M
+pub reply_in_place_spec : {M : Type 1} → stated.statement M
 unfolding code.routine tables_of
-reply-in-place-spec 𝓤 𝓛 𝓜 𝓡 =
+reply_in_place_spec 𝓤 𝓛 𝓜 𝓡 =
     entered 𝓤 𝓛.H (triple_of 𝓛 thin.signature (thin.spec 𝓛 𝓜.mem 𝓡.run))
     (tables 𝓤 𝓛.H 𝓜 𝓡 code.env).C (tables 𝓤 𝓛.H 𝓜 𝓡 code.env).Λ #thin code.function (code.unfolded 𝓤 𝓛.H 𝓜 𝓡)
-    (thin-meets 𝓛 𝓜.mem 𝓡.run (tables_of 𝓤 𝓛.H 𝓜 (tables 𝓤 𝓛.H 𝓜 𝓡 code.env))
+    (thin_meets 𝓛 𝓜.mem 𝓡.run (tables_of 𝓤 𝓛.H 𝓜 (tables 𝓤 𝓛.H 𝓜 𝓡 code.env))
     (cited 𝓤 𝓛.H (Callee 𝓛 𝓜.mem 𝓡.run) 𝓜 𝓡 code.env #callee callee-def.routine code.calls-retry-replies::reply (callee-thm.met 𝓤 𝓛 𝓜 𝓡)))

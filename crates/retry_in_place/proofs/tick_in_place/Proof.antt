@@ -38,8 +38,8 @@ use denote.Triple.Entry.{on_entry}
 use denote.Triple.Spec.{Meets, triple_of}
 use denote.Triple.Table.{entered, cited}
 use denote.Triple.Walked.{says, Stays, stay_ref, walk_of, AllGo, Goes-ref, Walks, ends_at, walked, walk_Meets}
-use Rattle.retry_rules.specs.Tick.{tickOf}
-use Rattle.retry_in_place.specs.Beside.{tickBeside}
+use Rattle.retry_rules.specs.Tick.{tick_of}
+use Rattle.retry_in_place.specs.Beside.{tick_beside}
 use Rattle.retry_rules.specs.declared.Sender.{Sender}
 use Rattle.retry_rules.specs.declared.Ticked.{Ticked}
 use Rattle.retry_rules.specs.contracts.Sender as T
@@ -83,8 +83,8 @@ module _ {M : Type 1} {𝓤 : Ura M} (𝓛 : Logic 𝓤) (at_mem : Memory → SP
   Post = (walk_of 𝓛 thin.ended stayed (thin.clauses 𝓛 at_mem run)).post (((κ, tt), (q, tt), tt, x, at), tt)
 
   -- what is left of the answer is made of its parts
-  beside : (r : Ticked) {v : Val} → Is S.the_row r (v ∷ []) → Is U.the_row (tickBeside r) (LL.vals U.the_type U'.the_laws (tickBeside r))
-  beside r is = LL.owes U.the_type U'.the_laws (tickBeside r) ((LL.owed S.the_type S'.the_laws r _ is).0, ((LL.owed S.the_type S'.the_laws r _ is).1.0, tt))
+  beside : (r : Ticked) {v : Val} → Is S.the_row r (v ∷ []) → Is U.the_row (tick_beside r) (LL.vals U.the_type U'.the_laws (tick_beside r))
+  beside r is = LL.owes U.the_type U'.the_laws (tick_beside r) ((LL.owed S.the_type S'.the_laws r _ is).0, ((LL.owed S.the_type S'.the_laws r _ is).1.0, tt))
 
   -- what the call's triple binds outside, what it asks, and what it says
   abbrev to : (Callee 𝓛 at_mem run).Ghost
@@ -95,19 +95,19 @@ module _ {M : Type 1} {𝓤 : Ura M} (𝓛 : Logic 𝓤) (at_mem : Memory → SP
       qed 𝓛 (‵ ftrue ∷ []) ∵ nothing ! $ owned ! T.the_row (Is T.the_row) ((LL.makes T.the_type T'.the_plain) 𝓛) h _ was $ fjoin ! $
       move ! (1 ∷ 0 ∷ []) $ join ! $ frame ! $ done !
 
-  said : (r : Ticked) → ent 𝓤 (ensured 𝓛 callee.ended (callee.clauses 𝓛 at_mem run) tt (h, tt) tt r) (fact 𝓤 (r ≡ tickOf h))
-  said r = ex_e 𝓤 _ (λ ws. snd∗ 𝓤 (sem 𝓛 (lasts callee.ended tt (h, tt) ws)) (fact 𝓤 (r ≡ tickOf h)))
+  said : (r : Ticked) → ent 𝓤 (ensured 𝓛 callee.ended (callee.clauses 𝓛 at_mem run) tt (h, tt) tt r) (fact 𝓤 (r ≡ tick_of h))
+  said r = ex_e 𝓤 _ (λ ws. snd∗ 𝓤 (sem 𝓛 (lasts callee.ended tt (h, tt) ws)) (fact 𝓤 (r ≡ tick_of h)))
 
-  exits : (r : Ticked) → r ≡ tickOf h → Is U.the_row (tickBeside r) (LL.vals U.the_type U'.the_laws (tickBeside r))
+  exits : (r : Ticked) → r ≡ tick_of h → Is U.the_row (tick_beside r) (LL.vals U.the_type U'.the_laws (tick_beside r))
       → ent 𝓤 (sep 𝓤 (A.obs γ ((T.the_row).coded.code r.sender)) (sep 𝓤 (A.bor κ (Body (mem T.the_row) b o γ)) (A.lft κ q)))
-      (Post (LL.val U.the_type U'.the_laws (tickBeside r)))
+      (Post (LL.val U.the_type U'.the_laws (tick_beside r)))
   exits r e told =
       qed 𝓛 (‵ (fobs γ ((T.the_row).coded.code r.sender)) ∷ ‵ (fbor κ (Body (mem T.the_row) b o γ)) ∷ ‵ (flft κ q) ∷ []) ∵
       suffices ! _ (ends_at 𝓛 thin.ended stayed (thin.clauses 𝓛 at_mem run) (((κ, tt), (q, tt), tt, x, at), tt)
-      (LL.val U.the_type U'.the_laws (tickBeside r)) (tickBeside r) (r.sender, tt) (tt, tt)) $
-      says ! (ap tickBeside e, ap (λ (a : Ticked). a.sender) e) $ nothing ! $ move ! (3 ∷ 0 ∷ []) $ join ! $
+      (LL.val U.the_type U'.the_laws (tick_beside r)) (tick_beside r) (r.sender, tt) (tt, tt)) $
+      says ! (ap tick_beside e, ap (λ (a : Ticked). a.sender) e) $ nothing ! $ move ! (3 ∷ 0 ∷ []) $ join ! $
       frame ! $ feq_i ! (List Val) (vptr b o ∷ []) (vptr b o ∷ []) refl $ fjoin3 ! $ nothing ! $ move ! (1 ∷ 0 ∷ []) $ fjoin ! $
-      owned ! U.the_row (Is U.the_row) ((LL.makes U.the_type U'.the_plain) 𝓛) (tickBeside r) _ told $ move ! (1 ∷ 0 ∷ []) $ done !
+      owned ! U.the_row (Is U.the_row) ((LL.makes U.the_type U'.the_plain) 𝓛) (tick_beside r) _ told $ move ! (1 ∷ 0 ∷ []) $ done !
 
   module _ (C : Calls 𝓤 H) (Λ : Loops 𝓤 H) (fm : FmC 𝓤 H 𝓛.laws C) (known : Triple 𝓤 (C #callee) (Callee 𝓛 at_mem run)) where
     walk : ent 𝓤 (on_entry 𝓛 thin.signature (κ, tt) (q, tt) x at) (WpFn 𝓤 H C Λ code.function (vptr b o ∷ []) Post)
@@ -123,7 +123,7 @@ module _ {M : Type 1} {𝓤 : Ura M} (𝓛 : Logic 𝓤) (at_mem : Memory → SP
         calls_at ! fm (Callee 𝓛 at_mem run) known to (and_then ! (load ! (from ! (stop !)) (look ! 8 refl)) (no_more !)) (λ v.
         use1 𝓛 (later (some (λ (r : Ticked). (‵ ftrue ⊛ ‵ ((S.the_row).own_val r (v ∷ []))) ⊛
         raw (ensured 𝓛 callee.ended (callee.clauses 𝓛 at_mem run) tt (h, tt) tt r)))) (id⊢ 𝓤 _) $ await ! tt $ pick ! (λ r.
-        split ! $ move ! (1 ∷ []) $ use1 𝓛 (raw (fact 𝓤 (r ≡ tickOf h))) (said r) $ heard ! (r ≡ tickOf h) (λ e. split ! $ drop ! $
+        split ! $ move ! (1 ∷ []) $ use1 𝓛 (raw (fact 𝓤 (r ≡ tick_of h))) (said r) $ heard ! (r ≡ tick_of h) (λ e. split ! $ drop ! $
         peeks ! S.the_row (Is S.the_row) (shows 𝓛 S.the_row) r (v ∷ []) (λ is.
         land ! (from ! (stop !)) (init ! 10 refl ((LL.lawful S.the_type S'.the_laws 𝓛).typed r _ is).0) $
         rewrite ! 10 (λ (u : Val). ‵ (fat full_share S'.mir l2 0 u)) (ap only (LL.tells S.the_type S'.the_laws r _ is)) refl $
@@ -132,7 +132,7 @@ module _ {M : Type 1} {𝓤 : Ura M} (𝓛 : Logic 𝓤) (at_mem : Memory → SP
         (store ! 1 refl ((LL.lawful T.the_type T'.the_laws 𝓛).typed r.sender _ (LL.owed S.the_type S'.the_laws r _ is).1.1.0).0) $
         assigns ! (agg ! (and_then ! (load ! (from ! (fld ! refl (stop !))) (look_in ! 10 (sub ! 0 refl (whole !))))
         (and_then ! (load ! (from ! (fld ! refl (stop !))) (look_in ! 10 (sub ! 1 refl (whole !)))) (no_more !)))) (from ! (stop !))
-        (init ! 14 refl ((LL.lawful U.the_type U'.the_laws 𝓛).typed (tickBeside r) _ (beside r is)).0) $
+        (init ! 14 refl ((LL.lawful U.the_type U'.the_laws 𝓛).typed (tick_beside r) _ (beside r is)).0) $
         drop ! $ move ! (1 ∷ []) $ drop ! $ closed ! tt r.sender b o (LL.owed S.the_type S'.the_laws r _ is).1.1.0 $
         returns ! (look ! 11 refl) $ forget ! 5 refl $ forget ! 7 refl $ forget ! 9 refl $ forget ! 11 refl $
         move ! (11 ∷ 12 ∷ []) $ free1 ! $ move ! (9 ∷ 10 ∷ []) $ free1 ! $ move ! (7 ∷ 8 ∷ []) $ free1 ! $ move ! (5 ∷ 6 ∷ []) $ free1 ! $ free0 ! $
@@ -141,9 +141,9 @@ module _ {M : Type 1} {𝓤 : Ura M} (𝓛 : Logic 𝓤) (at_mem : Memory → SP
 module _ {M : Type 1} {𝓤 : Ura M} (𝓛 : Logic 𝓤) (at_mem : Memory → SProp 𝓤) (run : Routine → Fun 𝓤) where
   open 𝓛 use {H}
 
-  thin-walks : (C : Calls 𝓤 H) (Λ : Loops 𝓤 H) → FmC 𝓤 H 𝓛.laws C → Triple 𝓤 (C #callee) (Callee 𝓛 at_mem run)
+  thin_walks : (C : Calls 𝓤 H) (Λ : Loops 𝓤 H) → FmC 𝓤 H 𝓛.laws C → Triple 𝓤 (C #callee) (Callee 𝓛 at_mem run)
       → Walks 𝓛 thin.ended stayed (WpFn 𝓤 H C Λ code.function) (thin.clauses 𝓛 at_mem run)
-  thin-walks C Λ fm known =
+  thin_walks C Λ fm known =
       walked 𝓛 thin.ended stayed (thin.clauses 𝓛 at_mem run) (WpFn 𝓤 H C Λ code.function) (λ κs. (mut_vals, tt))
       (λ κs. (mut_Tells (named 0) κs.0 T.the_row, tt))
       (λ κs qs bounds a _ are. via 𝓤 _ (fst∗ 𝓤 _ (emp 𝓤))
@@ -152,18 +152,18 @@ module _ {M : Type 1} {𝓤 : Ura M} (𝓛 : Logic 𝓤) (at_mem : Memory → SP
   all_go : AllGo 𝓛 1 (thin.signature).params (thin.ended).kept stayed
   all_go = (Goes-ref 𝓛 1 0 tt (plain (λ _. T.the_row)), tt)
 
-thin-meets : {M : Type 1} {𝓤 : Ura M} (𝓛 : Logic 𝓤) → (at_mem : Memory → SProp 𝓤) (run : Routine → Fun 𝓤) (𝓣 : Tables 𝓤 𝓛.H)
+thin_meets : {M : Type 1} {𝓤 : Ura M} (𝓛 : Logic 𝓤) → (at_mem : Memory → SProp 𝓤) (run : Routine → Fun 𝓤) (𝓣 : Tables 𝓤 𝓛.H)
     → Triple 𝓤 (𝓣.C #callee) (Callee 𝓛 at_mem run)
     → Meets 𝓛 thin.signature (WpFn 𝓤 𝓛.H 𝓣.C 𝓣.Λ code.function) (thin.spec 𝓛 at_mem run)
-thin-meets {𝓤 = 𝓤} 𝓛 at_mem run 𝓣 known =
+thin_meets {𝓤 = 𝓤} 𝓛 at_mem run 𝓣 known =
     walk_Meets 𝓛 thin.ended stayed (all_go 𝓛 at_mem run) (thin.clauses 𝓛 at_mem run) (WpFn 𝓤 𝓛.H 𝓣.C 𝓣.Λ code.function)
     (WpFn-mono 𝓤 𝓛.H 𝓛.laws 𝓣 code.function)
-    (thin-walks 𝓛 at_mem run 𝓣.C 𝓣.Λ (fm_of 𝓤 𝓛.H 𝓛.laws 𝓣) known)
+    (thin_walks 𝓛 at_mem run 𝓣.C 𝓣.Λ (fm_of 𝓤 𝓛.H 𝓛.laws 𝓣) known)
 
-pub tick-in-place-spec : {M : Type 1} → stated.statement M
+pub tick_in_place_spec : {M : Type 1} → stated.statement M
 unfolding code.routine tables_of
-tick-in-place-spec 𝓤 𝓛 𝓜 𝓡 =
+tick_in_place_spec 𝓤 𝓛 𝓜 𝓡 =
     entered 𝓤 𝓛.H (triple_of 𝓛 thin.signature (thin.spec 𝓛 𝓜.mem 𝓡.run))
     (tables 𝓤 𝓛.H 𝓜 𝓡 code.env).C (tables 𝓤 𝓛.H 𝓜 𝓡 code.env).Λ #thin code.function (code.unfolded 𝓤 𝓛.H 𝓜 𝓡)
-    (thin-meets 𝓛 𝓜.mem 𝓡.run (tables_of 𝓤 𝓛.H 𝓜 (tables 𝓤 𝓛.H 𝓜 𝓡 code.env))
+    (thin_meets 𝓛 𝓜.mem 𝓡.run (tables_of 𝓤 𝓛.H 𝓜 (tables 𝓤 𝓛.H 𝓜 𝓡 code.env))
     (cited 𝓤 𝓛.H (Callee 𝓛 𝓜.mem 𝓡.run) 𝓜 𝓡 code.env #callee callee-def.routine code.calls-retry-timer::tick (callee-thm.met 𝓤 𝓛 𝓜 𝓡)))

@@ -5,8 +5,8 @@ use mathlib.Core.Path.{refl, ap, ◌∙◌}
 use Prim.Native.Nat.{ℕ}
 use native.Mathlib.Omega.{arith}
 use Rattle.retry_rules.specs.Lent.{laid}
-use Rattle.retry_parts.proofs.Fitting.{laid-where}
-use Rattle.retry_offer.proofs.Offering.{Offer, Passed, passed, fits-buffer, fits-length, refused-offer, stores}
+use Rattle.retry_parts.proofs.Fitting.{laid_where}
+use Rattle.retry_offer.proofs.Offering.{Offer, Passed, passed, fits_buffer, fits_length, refused_offer_lem, stores}
 use Rattle.retry_offer.proofs.offer.Statement.{statement}
 use Rattle.retry_offer.proofs.offer.Tie as tie
 
@@ -23,7 +23,7 @@ offer-refusal-requires : tie.Need-offer-refusal-requires
 offer-refusal-requires c κs = search rules
 
 returns : tie.Need-returns
-returns c = refused-offer (call c.before.before.before.before) _ _ c.before.offer-refusal.ensures c.if1.true refl
+returns c = refused_offer_lem (call c.before.before.before.before) _ _ c.before.offer-refusal.ensures c.if1.true refl
 
 buffer-of-requires : tie.Need-buffer-of-requires
 buffer-of-requires c κs = search rules
@@ -35,12 +35,12 @@ after-requires : tie.Need-after-requires
 after-requires c κs = search rules
 
 cast-stored-in : tie.Need-overflow-cast-stored-in
-cast-stored-in c = omega (arith, (seen c.before.before.before.before.before.before.before).channel-lt)
+cast-stored-in c = omega (arith, (seen c.before.before.before.before.before.before.before).channel_lt)
 
 cast-stored-in-2 : tie.Need-overflow-cast-stored-in-2
 cast-stored-in-2 c = omega (
   arith,
-  fits-length (call c.before.before.before.before.before.before.before.before.before.before.before)
+  fits_length (call c.before.before.before.before.before.before.before.before.before.before.before)
       (seen c.before.before.before.before.before.before.before),
 )
 
@@ -56,9 +56,9 @@ returns-2 c =
     let p = seen c.before.before.before.before.before.before.before.before in
     let at = c.before.before.before.before.before.before.buffer-of.ensures in
     stores v p _ _ (simp (c.before.after.ensures, c.stored-in.ensures))
-    (c.before.before.before.before.lay.ensures.1 ∙ laid-where _ _ _ (fits-buffer v p _ at) ∙ ap (λ (k : ℕ). laid v.buffers k v.bytes) at)
+    (c.before.before.before.before.lay.ensures.1 ∙ laid_where _ _ _ (fits_buffer v p _ at) ∙ ap (λ (k : ℕ). laid v.buffers k v.bytes) at)
 
-pub offer-spec : {M : Type 1} → statement M
-offer-spec =
+pub offer_spec : {M : Type 1} → statement M
+offer_spec =
     tie.close
     (tie.spec offer-refusal-requires returns buffer-of-requires lay-requires after-requires cast-stored-in cast-stored-in-2 stored-in-requires same_length returns-2)

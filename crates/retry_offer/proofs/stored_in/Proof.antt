@@ -26,5 +26,5 @@ add-c c = search rules
 returns : tie.Need-returns
 returns c = simp c.before.before.before.before.before.slot_of.ensures
 
-pub stored-in-spec : {M : Type 1} → statement M
-stored-in-spec = tie.close (tie.spec slot-of-requires mul-lengths array-write-lengths array-write-channels array-write-marks add-c returns)
+pub stored_in_spec : {M : Type 1} → statement M
+stored_in_spec = tie.close (tie.spec slot-of-requires mul-lengths array-write-lengths array-write-channels array-write-marks add-c returns)

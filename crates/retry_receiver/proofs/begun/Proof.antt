@@ -7,5 +7,5 @@ use Rattle.retry_receiver.proofs.begun.Tie as tie
 returns : tie.Need-returns
 returns c = search rules
 
-pub begun-spec : {M : Type 1} → statement M
-begun-spec = tie.close (tie.spec returns)
+pub begun_spec : {M : Type 1} → statement M
+begun_spec = tie.close (tie.spec returns)

@@ -10,5 +10,5 @@ undelivered-requires c κs = search rules
 returns : tie.Need-returns
 returns c = search rules
 
-pub nack-spec : {M : Type 1} → statement M
-nack-spec = tie.close (tie.spec undelivered-requires returns)
+pub nack_spec : {M : Type 1} → statement M
+nack_spec = tie.close (tie.spec undelivered-requires returns)

@@ -2,7 +2,7 @@
 -- Assumes nothing.
 use mathlib.Core.Path.{sym, ◌∙◌}
 use borrow.Author.Rules.{rules}
-use Rattle.retry_rules.specs.States.{receiverRule}
+use Rattle.retry_rules.specs.States.{receiver_rule}
 use Rattle.retry_receiver.proofs.receiver_is_ruled.Statement.{statement}
 use Rattle.retry_receiver.proofs.receiver_is_ruled.Tie as tie
 
@@ -16,12 +16,12 @@ count-is-ruled-requires : tie.Need-count-is-ruled-requires
 count-is-ruled-requires c κs = search rules
 
 returns : tie.Need-returns
-unfolding receiverRule
+unfolding receiver_rule
 returns c = simp (c.count-is-ruled.ensures, sym c.before.before.size-is-allowed.ensures ∙ c.before.if1.true)
 
 returns-2 : tie.Need-returns-2
-unfolding receiverRule
+unfolding receiver_rule
 returns-2 c = simp (sym c.before.size-is-allowed.ensures ∙ c.if1.false)
 
-pub receiver-is-ruled-spec : {M : Type 1} → statement M
-receiver-is-ruled-spec = tie.close (tie.spec cast-size-is-allowed size-is-allowed-requires count-is-ruled-requires returns returns-2)
+pub receiver_is_ruled_spec : {M : Type 1} → statement M
+receiver_is_ruled_spec = tie.close (tie.spec cast-size-is-allowed size-is-allowed-requires count-is-ruled-requires returns returns-2)

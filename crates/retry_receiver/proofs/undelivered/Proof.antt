@@ -7,5 +7,5 @@ use Rattle.retry_receiver.proofs.undelivered.Tie as tie
 returns : tie.Need-returns
 returns c = refl
 
-pub undelivered-spec : {M : Type 1} → statement M
-undelivered-spec = tie.close (tie.spec returns)
+pub undelivered_spec : {M : Type 1} → statement M
+undelivered_spec = tie.close (tie.spec returns)

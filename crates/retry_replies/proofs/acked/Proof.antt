@@ -37,5 +37,5 @@ returns-3 c = simp (
   sym c.before.before.before.before.is-of-oldest.ensures ∙ c.before.before.before.if1.false,
 )
 
-pub acked-spec : {M : Type 1} → statement M
-acked-spec = tie.close (tie.spec is-of-oldest-requires one-released-requires restarted-requires returns among-last-requires returns-2 to-oldest-requires returns-3)
+pub acked_spec : {M : Type 1} → statement M
+acked_spec = tie.close (tie.spec is-of-oldest-requires one-released-requires restarted-requires returns among-last-requires returns-2 to-oldest-requires returns-3)

@@ -24,5 +24,5 @@ returns-3 : tie.Need-returns-3
 unfolding heard
 returns-3 c = simp (c.acked.ensures, c.before.if2.false, ne_eqb _ _ c.before.before.if1.false)
 
-pub heard-spec : {M : Type 1} → statement M
-heard-spec = tie.close (tie.spec returns nacked-requires returns-2 acked-requires returns-3)
+pub heard_spec : {M : Type 1} → statement M
+heard_spec = tie.close (tie.spec returns nacked-requires returns-2 acked-requires returns-3)

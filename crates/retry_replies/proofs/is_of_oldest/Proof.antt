@@ -7,5 +7,5 @@ use Rattle.retry_replies.proofs.is_of_oldest.Tie as tie
 returns : tie.Need-returns
 returns c = search rules
 
-pub is-of-oldest-spec : {M : Type 1} → statement M
-is-of-oldest-spec = tie.close (tie.spec returns)
+pub is_of_oldest_spec : {M : Type 1} → statement M
+is_of_oldest_spec = tie.close (tie.spec returns)

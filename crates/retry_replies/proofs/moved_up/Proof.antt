@@ -13,5 +13,5 @@ returns c = search rules
 returns-2 : tie.Need-returns-2
 returns-2 c = search rules
 
-pub moved-up-spec : {M : Type 1} → statement M
-moved-up-spec = tie.close (tie.spec sub-result returns returns-2)
+pub moved_up_spec : {M : Type 1} → statement M
+moved_up_spec = tie.close (tie.spec sub-result returns returns-2)

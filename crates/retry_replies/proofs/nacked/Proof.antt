@@ -23,5 +23,5 @@ returns-2 : tie.Need-returns-2
 unfolding nacked
 returns-2 c = simp (sym c.before.is-of-oldest.ensures ∙ c.if1.false, c.before.before.to-oldest.ensures)
 
-pub nacked-spec : {M : Type 1} → statement M
-nacked-spec = tie.close (tie.spec to-oldest-requires is-of-oldest-requires restarted-requires returns returns-2)
+pub nacked_spec : {M : Type 1} → statement M
+nacked_spec = tie.close (tie.spec to-oldest-requires is-of-oldest-requires restarted-requires returns returns-2)

@@ -22,5 +22,5 @@ one-more-requires c κs = search rules
 returns : tie.Need-returns
 returns c = simp (c.one_more.ensures, c.before.moved_up.ensures, c.before.before.before.before.after.ensures)
 
-pub one-released-spec : {M : Type 1} → statement M
-one-released-spec = tie.close (tie.spec after-requires sub-d sub-d-2 moved-up-requires one-more-requires returns)
+pub one_released_spec : {M : Type 1} → statement M
+one_released_spec = tie.close (tie.spec after-requires sub-d sub-d-2 moved-up-requires one-more-requires returns)

@@ -7,5 +7,5 @@ use Rattle.retry_replies.proofs.restarted.Tie as tie
 returns : tie.Need-returns
 returns c = search rules
 
-pub restarted-spec : {M : Type 1} → statement M
-restarted-spec = tie.close (tie.spec returns)
+pub restarted_spec : {M : Type 1} → statement M
+restarted_spec = tie.close (tie.spec returns)

@@ -7,5 +7,5 @@ use Rattle.retry_replies.proofs.to_oldest.Tie as tie
 returns : tie.Need-returns
 returns c = search rules
 
-pub to-oldest-spec : {M : Type 1} → statement M
-to-oldest-spec = tie.close (tie.spec returns)
+pub to_oldest_spec : {M : Type 1} → statement M
+to_oldest_spec = tie.close (tie.spec returns)

@@ -31,5 +31,5 @@ one-sent-requires c κs = search rules
 returns : tie.Need-returns
 returns c = simp (c.one-sent.ensures, c.before.after.ensures, c.before.before.before.before.before.before.slot_of.ensures)
 
-pub due-sent-spec : {M : Type 1} → statement M
-due-sent-spec = tie.close (tie.spec slot-of-requires after-requires array-read-t11 array-read-t14 mul-t15 array-read-t18 one-sent-requires returns)
+pub due_sent_spec : {M : Type 1} → statement M
+due_sent_spec = tie.close (tie.spec slot-of-requires after-requires array-read-t11 array-read-t14 mul-t15 array-read-t18 one-sent-requires returns)

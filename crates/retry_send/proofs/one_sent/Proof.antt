@@ -13,5 +13,5 @@ larger-requires c κs = search rules
 returns : tie.Need-returns
 returns c = simp c.larger.ensures
 
-pub one-sent-spec : {M : Type 1} → statement M
-one-sent-spec = tie.close (tie.spec add-point larger-requires returns)
+pub one_sent_spec : {M : Type 1} → statement M
+one_sent_spec = tie.close (tie.spec add-point larger-requires returns)

@@ -4,8 +4,8 @@ use borrow.Author.Rules.{rules}
 use mathlib.Core.Path.{ap, ◌∙◌}
 use native.Mathlib.Omega.{arith}
 use Rattle.retry_rules.specs.declared.Sent.{Sent}
-use Rattle.retry_parts.proofs.Fitting.{laid-where}
-use Rattle.retry_send.proofs.Sending.{Send, Passed, passed, few, within, part_length, refused-send, sends-nothing, sends}
+use Rattle.retry_parts.proofs.Fitting.{laid_where}
+use Rattle.retry_send.proofs.Sending.{Send, Passed, passed, few, within, part_length, refused_send_lem, sends_nothing, sends}
 use Rattle.retry_send.proofs.send.Statement.{statement}
 use Rattle.retry_send.proofs.send.Tie as tie
 
@@ -25,14 +25,14 @@ unsent-requires : tie.Need-unsent-requires
 unsent-requires c κs = search rules
 
 returns : tie.Need-returns
-returns c = refused-send (call c.before.before.before.before.before) _ _ c.before.before.send-refusal.ensures c.before.if1.true c.unsent.ensures
+returns c = refused_send_lem (call c.before.before.before.before.before) _ _ c.before.before.send-refusal.ensures c.before.if1.true c.unsent.ensures
 
 unsent-requires-2 : tie.Need-unsent-requires-2
 unsent-requires-2 c κs = search rules
 
 returns-2 : tie.Need-returns-2
 returns-2 c =
-    sends-nothing (call c.before.before.before.before.before.before.before.before) (seen c.before.before.before.before) _
+    sends_nothing (call c.before.before.before.before.before.before.before.before) (seen c.before.before.before.before) _
     c.before.if2.true c.unsent2.ensures
 
 due-sent-requires : tie.Need-due-sent-requires
@@ -80,9 +80,9 @@ returns-3 c =
     let from = c.before.before.before.before.before.before.buffer-of.ensures in
     let length = ap (λ (a : Sent). a.length) c.before.before.before.before.before.before.before.due-sent.ensures in
     sends v p more _ _ _ _ c.before.before.before.before.before.before.before.due-sent.ensures from length
-    (c.before.before.lay.ensures.1 ∙ laid-where _ 0 _ (omega (arith, part_length v p more _ _ (within v p more _ _ from length))))
+    (c.before.before.lay.ensures.1 ∙ laid_where _ 0 _ (omega (arith, part_length v p more _ _ (within v p more _ _ from length))))
 
-pub send-spec : {M : Type 1} → statement M
-send-spec =
+pub send_spec : {M : Type 1} → statement M
+send_spec =
     tie.close
     (tie.spec send-refusal-requires unsent-requires returns unsent-requires-2 returns-2 due-sent-requires buffer-of-requires cast-to add-to sub-lay part-lay-start part-lay-end lay-requires same_length returns-3)

@@ -14,5 +14,5 @@ add-result c = search rules
 returns : tie.Need-returns
 returns c = refl
 
-pub slot-of-spec : {M : Type 1} → statement M
-slot-of-spec = tie.close (tie.spec cast-result add-result returns)
+pub slot_of_spec : {M : Type 1} → statement M
+slot_of_spec = tie.close (tie.spec cast-result add-result returns)

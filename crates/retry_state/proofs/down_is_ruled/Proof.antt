@@ -19,5 +19,5 @@ returns-3 c = simp (
   eq-eqb c.before.before.before.before.before.args.c.expiries 3 c.before.before.before.if1.false,
 )
 
-pub down-is-ruled-spec : {M : Type 1} → statement M
-down-is-ruled-spec = tie.close (tie.spec returns returns-2 returns-3)
+pub down_is_ruled_spec : {M : Type 1} → statement M
+down_is_ruled_spec = tie.close (tie.spec returns returns-2 returns-3)

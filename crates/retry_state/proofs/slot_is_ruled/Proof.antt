@@ -14,5 +14,5 @@ returns-2 c = simp (lt-ltb 0 c.before.before.args.length (omega arith), lt-leb _
 returns-3 : tie.Need-returns-3
 returns-3 c = simp (lt-ltb 0 c.before.before.args.length (omega arith), le-leb _ _ c.if2.false)
 
-pub slot-is-ruled-spec : {M : Type 1} → statement M
-slot-is-ruled-spec = tie.close (tie.spec returns returns-2 returns-3)
+pub slot_is_ruled_spec : {M : Type 1} → statement M
+slot_is_ruled_spec = tie.close (tie.spec returns returns-2 returns-3)

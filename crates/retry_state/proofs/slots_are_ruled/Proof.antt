@@ -13,9 +13,9 @@ use borrow.Author.Rules.{rules}
 use borrow.Author.Tests.{not-true, not-false}
 use Rattle.laws.proofs.Cases.{both_true}
 use Rattle.retry_rules.specs.declared.Counters.{Counters}
-use Rattle.retry_rules.specs.Numbers.{everyBelow}
-use Rattle.retry_rules.specs.States.{slot_of, slotRule, slotsRule}
-use Rattle.retry_rules.proofs.StoredSlots.{every-fails}
+use Rattle.retry_rules.specs.Numbers.{every_below}
+use Rattle.retry_rules.specs.States.{slot_of, slot_rule, slots_rule}
+use Rattle.retry_rules.proofs.StoredSlots.{every_fails}
 use Rattle.retry_state.proofs.slots_are_ruled.Statement.{statement}
 use Rattle.retry_state.proofs.slots_are_ruled.Tie as tie
 
@@ -24,11 +24,11 @@ abbrev passes : Counters → List ℕ → List ℕ → ℕ → Bool
 passes k lengths channels i =
     ltb 0 (get_or lengths (slot_of k i) 0) && (leb (get_or lengths (slot_of k i) 0) k.size && ltb (get_or channels (slot_of k i) 0) 16)
 
-one_more : (f : ℕ → Bool) (i : ℕ) → everyBelow i f ≡ true → f i ≡ true → everyBelow (i + 1) f ≡ true
-one_more f i p q = ap (λ (n : ℕ). everyBelow n f) (add-one i) ∙ both_true (everyBelow i f) (f i) p q
+one_more : (f : ℕ → Bool) (i : ℕ) → every_below i f ≡ true → f i ≡ true → every_below (i + 1) f ≡ true
+one_more f i p q = ap (λ (n : ℕ). every_below n f) (add-one i) ∙ both_true (every_below i f) (f i) p q
 
 abbrev invariant-loop : tie.invariant-loop
-invariant-loop k lengths channels oldest stored i₀ i = (i ≤ stored) × (everyBelow i (passes k lengths channels) ≡ true)
+invariant-loop k lengths channels oldest stored i₀ i = (i ≤ stored) × (every_below i (passes k lengths channels) ≡ true)
 
 abbrev decreases-loop : tie.decreases-loop
 decreases-loop k lengths channels oldest stored i₀ i = stored - i
@@ -58,12 +58,12 @@ slot-is-ruled-requires : tie.Need-slot-is-ruled-requires invariant-loop decrease
 slot-is-ruled-requires c κs = search rules
 
 returns : tie.Need-returns invariant-loop decreases-loop
-unfolding slotsRule slotRule
+unfolding slots_rule slot_rule
 returns c =
     let k = c.before.before.before.before.before.before.before.before.before.before.args.sender.counters in
     let slots = c.before.before.before.before.before.before.before.before.before.before.args.sender.slots in
     let i = c.before.before.before.loop.i in
-    sym (every-fails k.stored (passes k slots.lengths slots.channels) i c.before.before.loop-test.true
+    sym (every_fails k.stored (passes k slots.lengths slots.channels) i c.before.before.loop-test.true
     (sym c.before.slot-is-ruled.ensures ∙ not-true _ c.if1.true))
 
 add-i : tie.Need-overflow-add-i invariant-loop decreases-loop
@@ -83,15 +83,15 @@ loop-again c =
     )
 
 returns-2 : tie.Need-returns-2 invariant-loop decreases-loop
-unfolding slotsRule slotRule
+unfolding slots_rule slot_rule
 returns-2 c =
     let k = c.before.before.before.before.before.before.before.before.args.sender.counters in
     let slots = c.before.before.before.before.before.before.before.before.args.sender.slots in
     let h = c.before.loop.invariant in
-    sym (ap (λ (n : ℕ). everyBelow n (passes k slots.lengths slots.channels)) (le_antisymm c.loop-test.false h.0) ∙ h.1)
+    sym (ap (λ (n : ℕ). every_below n (passes k slots.lengths slots.channels)) (le_antisymm c.loop-test.false h.0) ∙ h.1)
 
-pub slots-are-ruled-spec : {M : Type 1} → statement M
-slots-are-ruled-spec =
+pub slots_are_ruled_spec : {M : Type 1} → statement M
+slots_are_ruled_spec =
     tie.close
     (tie.spec
     invariant-loop

@@ -27,5 +27,5 @@ returns-4 c = simp (
   lt-ltb c.before.before.before.before.before.before.args.c.expiries 3 c.before.before.before.before.if1.false,
 )
 
-pub up-is-ruled-spec : {M : Type 1} → statement M
-up-is-ruled-spec = tie.close (tie.spec returns returns-2 returns-3 returns-4)
+pub up_is_ruled_spec : {M : Type 1} → statement M
+up_is_ruled_spec = tie.close (tie.spec returns returns-2 returns-3 returns-4)

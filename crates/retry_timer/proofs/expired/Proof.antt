@@ -10,5 +10,5 @@ add-d c = search rules
 returns : tie.Need-returns
 returns c = search rules
 
-pub expired-spec : {M : Type 1} → statement M
-expired-spec = tie.close (tie.spec add-d returns)
+pub expired_spec : {M : Type 1} → statement M
+expired_spec = tie.close (tie.spec add-d returns)

@@ -7,5 +7,5 @@ use Rattle.retry_timer.proofs.fallen.Tie as tie
 returns : tie.Need-returns
 returns c = search rules
 
-pub fallen-spec : {M : Type 1} → statement M
-fallen-spec = tie.close (tie.spec returns)
+pub fallen_spec : {M : Type 1} → statement M
+fallen_spec = tie.close (tie.spec returns)

@@ -45,5 +45,5 @@ returns-4 : tie.Need-returns-4
 unfolding ticked
 returns-4 c = simp (ne_eqb _ _ c.before.if2.false, ne_eqb _ _ c.before.before.before.if1.false)
 
-pub ticked-spec : {M : Type 1} → statement M
-ticked-spec = tie.close (tie.spec returns expired-requires returns-2 expired-requires-2 fallen-requires returns-3 sub-d returns-4)
+pub ticked_spec : {M : Type 1} → statement M
+ticked_spec = tie.close (tie.spec returns expired-requires returns-2 expired-requires-2 fallen-requires returns-3 sub-d returns-4)

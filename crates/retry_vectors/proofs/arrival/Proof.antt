@@ -60,8 +60,8 @@ same_length c = search rules
 returns : tie.Need-returns
 returns c = search rules
 
-pub arrival-spec : {M : Type 1} → statement M
-arrival-spec =
+pub arrival_spec : {M : Type 1} → statement M
+arrival_spec =
     tie.close
     (tie.spec
     field-requires

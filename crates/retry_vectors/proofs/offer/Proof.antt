@@ -66,8 +66,8 @@ same_length c = search rules
 returns : tie.Need-returns
 returns c = search rules
 
-pub offer-spec : {M : Type 1} → statement M
-offer-spec =
+pub offer_spec : {M : Type 1} → statement M
+offer_spec =
     tie.close
     (tie.spec
     field-requires

@@ -66,8 +66,8 @@ same_length c = search rules
 returns : tie.Need-returns
 returns c = search rules
 
-pub send-spec : {M : Type 1} → statement M
-send-spec =
+pub send_spec : {M : Type 1} → statement M
+send_spec =
     tie.close
     (tie.spec
     field-requires

@@ -7,7 +7,7 @@ use native.Mathlib.Omega.{arith}
 use lib.ListN.{length, drop}
 use Rattle.laws.specs.Lists.{all_of}
 use Rattle.character_rules.specs.Results.{in_range}
-use Rattle.run_reader.proofs.Ranges.{range-on, range-end}
+use Rattle.run_reader.proofs.Ranges.{range_on, range_end}
 use borrow.Author.Rules.{rules}
 use Rattle.run_reader.proofs.all_in_range.Statement.{statement}
 use Rattle.run_reader.proofs.all_in_range.Tie as tie
@@ -37,13 +37,13 @@ loop-again : tie.Need-loop-preserved invariant-loop decreases-loop
 loop-again c =
     let b1 = c.before in let b2 = b1.before in
     let l = b2 in
-    (omega arith, range-on l.before.args.characters.now l.loop.i l.loop.so_far l.loop.invariant.1 (search rules))
+    (omega arith, range_on l.before.args.characters.now l.loop.i l.loop.so_far l.loop.invariant.1 (search rules))
 
 returns : tie.Need-returns invariant-loop decreases-loop
-returns c = let l = c.before in range-end l.before.args.characters.now l.loop.i l.loop.so_far l.loop.invariant.1 (omega arith)
+returns c = let l = c.before in range_end l.before.args.characters.now l.loop.i l.loop.so_far l.loop.invariant.1 (omega arith)
 
-pub all-in-range-spec : {M : Type 1} → statement M
-all-in-range-spec =
+pub all_in_range_spec : {M : Type 1} → statement M
+all_in_range_spec =
     tie.close
     (tie.spec
     invariant-loop

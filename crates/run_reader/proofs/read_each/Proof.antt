@@ -6,16 +6,16 @@ use Prim.Native.Nat.{◌<◌, ◌-◌, ◌+◌}
 use native.Mathlib.Omega.{arith}
 use lib.Dec.{eqb}
 use lib.ListN.{length, set}
-use Rattle.character_rules.specs.Disparity.{disparityOf}
-use Rattle.character_rules.proofs.RunLaws.{Reached, one_more, at-end, range_at}
-use Rattle.run_reader.proofs.Halves.{number-low, top-is, start-at}
+use Rattle.character_rules.specs.Disparity.{disparity_of}
+use Rattle.character_rules.proofs.RunLaws.{Reached, one_more, at_end_lem, range_at}
+use Rattle.run_reader.proofs.Halves.{number_low, top_is, start_at}
 use Rattle.run_table.specs.Table.{table}
 use borrow.Author.Rules.{rules}
 use Rattle.run_reader.proofs.read_each.Statement.{statement}
 use Rattle.run_reader.proofs.read_each.Tie as tie
 
 abbrev invariant-loop : tie.invariant-loop
-invariant-loop characters plus results₀ entries p₀ i₀ results p i = Reached characters (disparityOf plus) results₀ i results (eqb p 1) × (p < 2)
+invariant-loop characters plus results₀ entries p₀ i₀ results p i = Reached characters (disparity_of plus) results₀ i results (eqb p 1) × (p < 2)
 
 abbrev decreases-loop : tie.decreases-loop
 decreases-loop characters plus results₀ entries p₀ i₀ results p i = length characters - i
@@ -27,7 +27,7 @@ loop-holds : tie.Need-loop-init invariant-loop decreases-loop
 loop-holds c =
     let s = c.before.before.before in
     let e = c.number_of_lem.ensures in
-    (start-at s.args.characters.now s.args.plus s.args.results.now _ e, number-low s.args.plus _ e)
+    (start_at s.args.characters.now s.args.plus s.args.results.now _ e, number_low s.args.plus _ e)
 
 mul-half-of : tie.Need-overflow-mul-half-of invariant-loop decreases-loop
 mul-half-of c = search rules
@@ -64,11 +64,11 @@ loop-again c =
     let b4 = c.before.before.before.before in let s = b4.before.before.before.before in
     let l = b4.loop in
     let cs = s.args.characters.now in
-    let d = disparityOf s.args.plus in
+    let d = disparity_of s.args.plus in
     let old = s.args.results.now in
     let r = c.half_of_lem.result in
     let low = c.half_of_lem.ensures.1 in (
-      subst (λ (b : Bool). Reached cs d old (l.i + 1) (set l.results l.i r) b) (top-is r low)
+      subst (λ (b : Bool). Reached cs d old (l.i + 1) (set l.results l.i r) b) (top_is r low)
           (one_more cs d old l.i l.results (eqb l.p 1) r l.invariant.0 (search rules)
           (range_at cs l.i s.requires.0 (search rules)) s.requires.1 c.half_of_lem.ensures.0),
       omega (arith, low),
@@ -80,11 +80,11 @@ same_length c = search rules
 returns : tie.Need-returns invariant-loop decreases-loop
 returns c =
     let l = c.before.loop in let s = c.before.before.before.before.before in
-    at-end s.args.characters.now (disparityOf s.args.plus) s.args.results.now l.i l.results (eqb l.p 1) l.invariant.0
+    at_end_lem s.args.characters.now (disparity_of s.args.plus) s.args.results.now l.i l.results (eqb l.p 1) l.invariant.0
     (omega arith)
 
-pub read-each-spec : {M : Type 1} → statement M
-read-each-spec =
+pub read_each_spec : {M : Type 1} → statement M
+read_each_spec =
     tie.close
     (tie.spec
     invariant-loop

@@ -5,7 +5,7 @@ use mathlib.Core.List.{List}
 use Prim.Native.Nat.{ℕ}
 use native.Mathlib.Omega.{arith}
 use lib.ListN.{get_or}
-use Rattle.writer_table.proofs.Held.{table-half}
+use Rattle.writer_table.proofs.Held.{table_half}
 use borrow.Author.Rules.{rules}
 use Rattle.character_rules.specs.Disparity.{half_of}
 use Rattle.run_writer.proofs.look_up.Statement.{statement}
@@ -27,7 +27,7 @@ returns : tie.Need-returns
 returns c =
     let s = c.before in
     let a = s.args in
-    ap (λ (l : List ℕ). half_of (get_or l a.byte 0) a.p) s.requires.0 ∙ table-half a.byte a.p (omega arith) s.requires.1
+    ap (λ (l : List ℕ). half_of (get_or l a.byte 0) a.p) s.requires.0 ∙ table_half a.byte a.p (omega arith) s.requires.1
 
-pub look-up-spec : {M : Type 1} → statement M
-look-up-spec = tie.close (tie.spec mul-entry element-copy-out-entry mul-result shr-result returns)
+pub look_up_spec : {M : Type 1} → statement M
+look_up_spec = tie.close (tie.spec mul-entry element-copy-out-entry mul-result shr-result returns)

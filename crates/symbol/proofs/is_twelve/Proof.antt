@@ -2,7 +2,7 @@
 -- Assumes nothing.
 use borrow.Author.Tests.{eq-eqb, ne_eqb}
 use borrow.Author.Rules.{rules}
-use Rattle.symbol.proofs.Twelve.{by_tests, last-test}
+use Rattle.symbol.proofs.Twelve.{by_tests, last_test}
 use Rattle.symbol.proofs.is_twelve.Statement.{statement}
 use Rattle.symbol.proofs.is_twelve.Tie as tie
 
@@ -26,7 +26,7 @@ returns-4 c =
 returns-5 : tie.Need-returns-5
 returns-5 c =
     let b1 = c.before in let b2 = b1.before in let b3 = b2.before in let b4 = b3.before in
-    last-test b4.args.byte (search rules) b3.if1.false b2.if2.false b1.if3.false c.if4.false
+    last_test b4.args.byte (search rules) b3.if1.false b2.if2.false b1.if3.false c.if4.false
 
-pub is-twelve-spec : {M : Type 1} → statement M
-is-twelve-spec = tie.close (tie.spec returns returns-2 returns-3 returns-4 returns-5)
+pub is_twelve_spec : {M : Type 1} → statement M
+is_twelve_spec = tie.close (tie.spec returns returns-2 returns-3 returns-4 returns-5)

@@ -38,8 +38,8 @@ returns c = let s = c.before.before.before.before in
     c.ten-bits.ensures
     ∙ in_bytes bytes t i (10 * i / 8) (10 * i / 8 + 1) (6 - 10 * i % 8) (omega arith) (omega arith) (omega arith) s.requires.1
 
-pub character-in-spec : {M : Type 1} → statement M
-character-in-spec =
+pub character_in_spec : {M : Type 1} → statement M
+character_in_spec =
     tie.close
     (tie.spec
     mul-k

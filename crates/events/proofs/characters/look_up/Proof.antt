@@ -4,8 +4,8 @@ use mathlib.Core.Path.{◌∙◌, ap}
 use mathlib.Core.List.{List}
 use Prim.Native.Nat.{ℕ}
 use lib.ListN.{get_or}
-use Rattle.character_table.specs.Entries.{resultIn}
-use Rattle.character_table.proofs.Held.{table-right}
+use Rattle.character_table.specs.Entries.{result_in}
+use Rattle.character_table.proofs.Held.{table_right}
 use borrow.Author.Rules.{rules}
 use Rattle.events.proofs.characters.look_up.Statement.{statement}
 use Rattle.events.proofs.characters.look_up.Tie as tie
@@ -22,8 +22,8 @@ result-in-requires c κs = search rules
 returns : tie.Need-returns
 returns c = let a = c.before.before in
     c.result-in.ensures
-    ∙ ap (λ (l : List ℕ). resultIn (get_or l a.args.character 0) a.args.plus) a.requires.0
-    ∙ table-right a.args.character a.requires.1 a.args.plus
+    ∙ ap (λ (l : List ℕ). result_in (get_or l a.args.character 0) a.args.plus) a.requires.0
+    ∙ table_right a.args.character a.requires.1 a.args.plus
 
-pub look-up-spec : {M : Type 1} → statement M
-look-up-spec = tie.close (tie.spec mul-entry element-copy-out-entry result-in-requires returns)
+pub look_up_spec : {M : Type 1} → statement M
+look_up_spec = tie.close (tie.spec mul-entry element-copy-out-entry result-in-requires returns)

@@ -25,7 +25,7 @@ returns-2 c = simp (c.before.packet.given.1, c.before.before.before.enum-told2.g
 returns-3 : tie.Need-returns-3
 returns-3 c = search rules
 
-pub data-after-spec : {M : Type 1} → statement M
-data-after-spec =
+pub data_after_spec : {M : Type 1} → statement M
+data_after_spec =
     tie.close
     (tie.spec enum_told enum-told-2 enum-known-packet enum-told-3 returns returns-2 returns-3)

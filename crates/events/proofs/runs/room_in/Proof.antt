@@ -2,7 +2,7 @@
 -- Assumes nothing.
 use borrow.Author.Rules.{rules}
 use native.Mathlib.Omega.{arith}
-use Rattle.events_rules.proofs.Feeding.{takes_none, takes-data, takes-priority}
+use Rattle.events_rules.proofs.Feeding.{takes_none, takes_data, takes_priority}
 use Rattle.events.proofs.runs.room_in.Statement.{statement}
 use Rattle.events.proofs.runs.room_in.Tie as tie
 
@@ -21,7 +21,7 @@ enum-known-packet c = search rules
 returns : tie.Need-returns
 returns c = let s = c.before.before.before.before.before.before.before.before in
     let a = s.args in
-    takes-data a.size a.packet a.priority a.phase a.most _ _ _ c.before.before.packet.given.1 c.if1.true
+    takes_data a.size a.packet a.priority a.phase a.most _ _ _ c.before.before.packet.given.1 c.if1.true
     c.before.before.before.before.enum-told2.given.1 c.before.before.before.before.before.before.enum_told.given.1 s.requires
 
 enum-known-priority : tie.Need-enum-known-priority
@@ -55,7 +55,7 @@ returns-5 : tie.Need-returns-5
 returns-5 c = let s = c.before.before.before.before.before.before.before in
     let a = s.args in
     let within = c.lesser.ensures in
-    takes-priority a.size a.packet a.priority a.phase a.most _ _ _ _ c.before.before.before.priority.given.1
+    takes_priority a.size a.packet a.priority a.phase a.most _ _ _ _ c.before.before.before.priority.given.1
     c.before.before.before.before.before.enum_told.given.1 within.0 (omega arith) (omega arith)
 
 returns-6 : tie.Need-returns-6
@@ -67,8 +67,8 @@ returns-7 c = let a = c.before.before.args in takes_none a.size a.packet a.prior
 returns-8 : tie.Need-returns-8
 returns-8 c = let a = c.before.before.args in takes_none a.size a.packet a.priority a.phase a.most
 
-pub room-in-spec : {M : Type 1} → statement M
-room-in-spec =
+pub room_in_spec : {M : Type 1} → statement M
+room_in_spec =
     tie.close
     (tie.spec
     enum_told

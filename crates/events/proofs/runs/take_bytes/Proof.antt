@@ -6,19 +6,19 @@ use mathlib.Core.Path.{sym, ap, subst, ◌∙◌}
 use Prim.Native.Nat.{ℕ, ◌+◌, ◌-◌, ◌%◌, ◌<◌}
 use lib.Dec.{leb}
 use lib.ListN.{set}
-use Rattle.laws.proofs.Groups.{getD-below}
-use Rattle.character_rules.specs.Disparity.{disparityOf}
+use Rattle.laws.proofs.Groups.{get_or_below}
+use Rattle.character_rules.specs.Disparity.{disparity_of}
 use Rattle.character_rules.specs.Reading.{reading}
 use Rattle.character_rules.specs.Results.{packed}
-use Rattle.capture_rules.specs.Capture.{charactersOf}
-use Rattle.capture_rules.proofs.Packing.{characters-below, characters-length}
-use Rattle.events_rules.proofs.Feeding.{Fed, fed-none, fed-one}
+use Rattle.capture_rules.specs.Capture.{characters_of}
+use Rattle.capture_rules.proofs.Packing.{characters_below, characters_length}
+use Rattle.events_rules.proofs.Feeding.{Fed, fed_none, fed_one}
 use Rattle.events.proofs.runs.take_bytes.Statement.{statement}
 use Rattle.events.proofs.runs.take_bytes.Tie as tie
 
 abbrev invariant-loop : tie.invariant-loop
 invariant-loop entries crcs capture until events₀ plus₀ register₀ at₀ events plus register at =
-    Fed (charactersOf capture) until at₀ plus₀ register₀ events₀ at plus register events
+    Fed (characters_of capture) until at₀ plus₀ register₀ events₀ at plus register events
 
 abbrev decreases-loop : tie.decreases-loop
 decreases-loop entries crcs capture until events₀ plus₀ register₀ at₀ events plus register at = until - at
@@ -28,8 +28,8 @@ loop-holds c =
     let s = c.before.before in
     let a = s.args in
     let from = a.from in
-    let long = characters-length a.capture.now in
-    fed-none (charactersOf a.capture.now) a.until from.at from.plus from.register a.events.now (omega arith) s.requires.4
+    let long = characters_length a.capture.now in
+    fed_none (characters_of a.capture.now) a.until from.at from.plus from.register a.events.now (omega arith) s.requires.4
 
 character-in-requires : tie.Need-character-in-requires invariant-loop decreases-loop
 character-in-requires c κs =
@@ -41,7 +41,7 @@ look-up-requires c κs =
     let character = c.character-in in
     let l = c.before.before.loop in
     let s = c.before.before.before.before.before in
-    let low = getD-below 1024 (charactersOf s.args.capture.now) (omega arith) (characters-below s.args.capture.now) l.at in
+    let low = get_or_below 1024 (characters_of s.args.capture.now) (omega arith) (characters_below s.args.capture.now) l.at in
     (s.requires.0, subst (λ (n : ℕ). n < 1024) (sym character.ensures) low)
 
 same_length : tie.Need-same-length invariant-loop decreases-loop
@@ -95,14 +95,14 @@ loop-again c =
     let s = c.before.before.before.before.before.before.before.before in
     let a = s.args in
     let from = a.from in
-    let cs = charactersOf a.capture.now in
+    let cs = characters_of a.capture.now in
     let n = found.result in
-    let low = getD-below 1024 (charactersOf s.args.capture.now) (omega arith) (characters-below s.args.capture.now) l.at in
-    let long = characters-length a.capture.now in
+    let low = get_or_below 1024 (characters_of s.args.capture.now) (omega arith) (characters_below s.args.capture.now) l.at in
+    let long = characters_length a.capture.now in
     let room = l.invariant.room in
-    let is = found.ensures ∙ ap (λ (k : ℕ). packed (reading k (disparityOf l.plus))) character.ensures in
+    let is = found.ensures ∙ ap (λ (k : ℕ). packed (reading k (disparity_of l.plus))) character.ensures in
     let fed =
-    fed-one cs a.until from.at from.plus from.register a.events.now (omega arith) l.at l.plus l.register
+    fed_one cs a.until from.at from.plus from.register a.events.now (omega arith) l.at l.plus l.register
     l.events n l.invariant test.true low (omega arith) is one.false in
     let new = set l.events l.at (262144 + n % 256) in
     subst (λ (x : ℕ). Fed cs a.until from.at from.plus from.register a.events.now (l.at + 1) (leb 2048 n) x new)
@@ -118,8 +118,8 @@ returns-2 c =
     let l = c.before.loop in
     l.invariant
 
-pub take-bytes-spec : {M : Type 1} → statement M
-take-bytes-spec =
+pub take_bytes_spec : {M : Type 1} → statement M
+take_bytes_spec =
     tie.close
     (tie.spec invariant-loop decreases-loop
     loop-holds character-in-requires look-up-requires same_length returns cast-events add-events mul-events slice-write-events

@@ -2,10 +2,10 @@
 -- Assumes nothing.
 use borrow.Author.Rules.{rules}
 use native.Mathlib.Omega.{arith}
-use Rattle.capture_rules.specs.Capture.{charactersOf}
-use Rattle.capture_rules.proofs.Packing.{characters-length}
-use Rattle.events_rules.proofs.Runs.{ran-none}
-use Rattle.events_rules.proofs.Feeding.{fed-ran}
+use Rattle.capture_rules.specs.Capture.{characters_of}
+use Rattle.capture_rules.proofs.Packing.{characters_length}
+use Rattle.events_rules.proofs.Runs.{ran_none}
+use Rattle.events_rules.proofs.Feeding.{fed_ran}
 use Rattle.events.proofs.runs.user_bytes.Statement.{statement}
 use Rattle.events.proofs.runs.user_bytes.Tie as tie
 
@@ -19,8 +19,8 @@ returns : tie.Need-returns
 returns c = let s = c.before.before.before.before.before in
     let a = s.args in
     let from = a.from in
-    let long = characters-length a.capture.now in
-    ran-none (charactersOf a.capture.now) from.at from.plus from.reader a.events.now (omega arith) s.requires.5
+    let long = characters_length a.capture.now in
+    ran_none (characters_of a.capture.now) from.at from.plus from.reader a.events.now (omega arith) s.requires.5
 
 register-in-requires : tie.Need-register-in-requires
 register-in-requires c κs = search rules
@@ -56,11 +56,11 @@ returns-2 c = let taken = c.before.before.before.before.before.take-bytes in
     let a = s.args in
     let from = a.from in
     let r = from.reader in
-    fed-ran (charactersOf a.capture.now) from.at room.result from.plus a.events.now _ _ _ _ r.size r.packet r.priority r.phase
+    fed_ran (characters_of a.capture.now) from.at room.result from.plus a.events.now _ _ _ _ r.size r.packet r.priority r.phase
     _ c.before.before.before.before.before.before.before.register-in.ensures taken.ensures room.ensures.feeds s.requires.5 _ _ c.before.before.data-after.ensures c.priority-after.ensures
 
-pub user-bytes-spec : {M : Type 1} → statement M
-user-bytes-spec =
+pub user_bytes_spec : {M : Type 1} → statement M
+user_bytes_spec =
     tie.close
     (tie.spec
     sub-room-in

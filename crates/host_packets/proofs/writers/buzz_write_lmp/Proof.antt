@@ -2,7 +2,7 @@
 -- Assumes nothing.
 use mathlib.Core.Path.{refl, sym, ap, ◌∙◌}
 use lib.IntN.{ℤ}
-use Rattle.packet_rules.specs.Packets.{retry, writtenSays, packetWriting, packetOutput}
+use Rattle.packet_rules.specs.Packets.{retry, written_says, packet_writing, packet_output}
 use Rattle.host_rules.specs.Numbers.{mark_of}
 use Rattle.host_rules.proofs.Signed.{same}
 use Rattle.host_calls.specs.PacketCalls.{WritesPacket}
@@ -32,9 +32,9 @@ returns c =
     let old : WritesPacket = record { disparity = a.disparity.now; characters = a.characters.now; count = a.count.now } in
     let packet = retry (mark_of a.nack) a.number in
     let d = same a.disparity.now c.before.before.before.before.before.before.before.write-lmp-arg.given in
-    let h = sym (ap writtenSays c.before.answer.given.1) ∙ c.before.before.before.before.before.write-lmp.ensures.0
-    ∙ ap (λ (d : ℤ). packetWriting 0 packet d a.characters.now) d in
-    let characters = c.before.before.before.before.before.write-lmp.ensures.1 ∙ ap (λ (d : ℤ). packetOutput 0 packet d a.characters.now) d in
+    let h = sym (ap written_says c.before.answer.given.1) ∙ c.before.before.before.before.before.write-lmp.ensures.0
+    ∙ ap (λ (d : ℤ). packet_writing 0 packet d a.characters.now) d in
+    let characters = c.before.before.before.before.before.write-lmp.ensures.1 ∙ ap (λ (d : ℤ). packet_output 0 packet d a.characters.now) d in
     rw (packet-done 0 packet old _ _ h) (refl, same _ c.known-told.given.1.0.1, characters, refl)
 
 same-length-2 : tie.Need-same-length-2
@@ -46,13 +46,13 @@ returns-2 c =
     let old : WritesPacket = record { disparity = a.disparity.now; characters = a.characters.now; count = a.count.now } in
     let packet = retry (mark_of a.nack) a.number in
     let d = same a.disparity.now c.before.before.before.before.before.before.before.write-lmp-arg.given in
-    let h = sym (ap writtenSays c.before.answer2.given.1) ∙ c.before.before.before.before.before.write-lmp.ensures.0
-    ∙ ap (λ (d : ℤ). packetWriting 0 packet d a.characters.now) d in
-    let characters = c.before.before.before.before.before.write-lmp.ensures.1 ∙ ap (λ (d : ℤ). packetOutput 0 packet d a.characters.now) d in
+    let h = sym (ap written_says c.before.answer2.given.1) ∙ c.before.before.before.before.before.write-lmp.ensures.0
+    ∙ ap (λ (d : ℤ). packet_writing 0 packet d a.characters.now) d in
+    let characters = c.before.before.before.before.before.write-lmp.ensures.1 ∙ ap (λ (d : ℤ). packet_output 0 packet d a.characters.now) d in
     rw (packet-refused 0 packet old _ h) (refl, refl, characters, refl)
 
-pub buzz-write-lmp-spec : {M : Type 1} → statement M
-buzz-write-lmp-spec =
+pub buzz_write_lmp_spec : {M : Type 1} → statement M
+buzz_write_lmp_spec =
     tie.close
     (tie.spec
     write-lmp-requires

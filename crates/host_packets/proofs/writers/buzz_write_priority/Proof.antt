@@ -2,7 +2,7 @@
 -- Assumes nothing.
 use mathlib.Core.Path.{refl, sym, ap, ◌∙◌}
 use lib.IntN.{ℤ}
-use Rattle.packet_rules.specs.Packets.{inPriority, writtenSays, packetWriting, packetOutput}
+use Rattle.packet_rules.specs.Packets.{in_priority, written_says, packet_writing, packet_output}
 use Rattle.host_rules.specs.Numbers.{mark_of}
 use Rattle.host_rules.proofs.Signed.{same}
 use Rattle.host_calls.specs.PacketCalls.{WritesPacket}
@@ -30,12 +30,12 @@ returns : tie.Need-returns
 returns c =
     let a = c.before.before.before.before.before.before.before.before.before.before.args in
     let old : WritesPacket = record { disparity = a.disparity.now; characters = a.characters.now; count = a.count.now } in
-    let packet = inPriority a.channel a.segment a.bytes.now (mark_of a.bad) in
+    let packet = in_priority a.channel a.segment a.bytes.now (mark_of a.bad) in
     let d = same a.disparity.now c.before.before.before.before.before.before.before.write-priority-arg.given in
-    let h = sym (ap writtenSays c.before.answer.given.1) ∙ c.before.before.before.before.before.write-priority.ensures.0
-    ∙ ap (λ (d : ℤ). packetWriting a.size packet d a.characters.now) d in
+    let h = sym (ap written_says c.before.answer.given.1) ∙ c.before.before.before.before.before.write-priority.ensures.0
+    ∙ ap (λ (d : ℤ). packet_writing a.size packet d a.characters.now) d in
     let characters = c.before.before.before.before.before.write-priority.ensures.1
-    ∙ ap (λ (d : ℤ). packetOutput a.size packet d a.characters.now) d in
+    ∙ ap (λ (d : ℤ). packet_output a.size packet d a.characters.now) d in
     rw (packet-done a.size packet old _ _ h) (refl, same _ c.known-told.given.1.0.1, characters, refl)
 
 same-length-2 : tie.Need-same-length-2
@@ -45,16 +45,16 @@ returns-2 : tie.Need-returns-2
 returns-2 c =
     let a = c.before.before.before.before.before.before.before.before.before.before.args in
     let old : WritesPacket = record { disparity = a.disparity.now; characters = a.characters.now; count = a.count.now } in
-    let packet = inPriority a.channel a.segment a.bytes.now (mark_of a.bad) in
+    let packet = in_priority a.channel a.segment a.bytes.now (mark_of a.bad) in
     let d = same a.disparity.now c.before.before.before.before.before.before.before.write-priority-arg.given in
-    let h = sym (ap writtenSays c.before.answer2.given.1) ∙ c.before.before.before.before.before.write-priority.ensures.0
-    ∙ ap (λ (d : ℤ). packetWriting a.size packet d a.characters.now) d in
+    let h = sym (ap written_says c.before.answer2.given.1) ∙ c.before.before.before.before.before.write-priority.ensures.0
+    ∙ ap (λ (d : ℤ). packet_writing a.size packet d a.characters.now) d in
     let characters = c.before.before.before.before.before.write-priority.ensures.1
-    ∙ ap (λ (d : ℤ). packetOutput a.size packet d a.characters.now) d in
+    ∙ ap (λ (d : ℤ). packet_output a.size packet d a.characters.now) d in
     rw (packet-refused a.size packet old _ h) (refl, refl, characters, refl)
 
-pub buzz-write-priority-spec : {M : Type 1} → statement M
-buzz-write-priority-spec =
+pub buzz_write_priority_spec : {M : Type 1} → statement M
+buzz_write_priority_spec =
     tie.close
     (tie.spec
     write-priority-requires

@@ -4,7 +4,7 @@ use mathlib.Core.Path.{sym, ap, ◌∙◌}
 use borrow.Author.Tests.{eq-eqb, ne_eqb}
 use Prim.Native.Nat.{ℕ}
 use lib.Dec.{eqb}
-use Rattle.host_rules.specs.ReaderBytes.{two, packetFits}
+use Rattle.host_rules.specs.ReaderBytes.{two, packet_fits}
 use Rattle.host_reader_bytes.proofs.Tests.{held}
 use borrow.Author.Rules.{rules}
 use Rattle.host_reader_bytes.proofs.fits.packet_fits.Statement.{statement}
@@ -14,14 +14,14 @@ packet-tag-requires : tie.Need-packet-tag-requires
 packet-tag-requires c κs = search rules
 
 returns : tie.Need-returns
-unfolding packetFits
+unfolding packet_fits
 returns c = simp (ap (λ (t : ℕ). eqb t c.before.before.args.tag) (sym c.before.packet-tag.ensures) ∙ ne_eqb _ _ c.if1.true)
 
 packet-channel-requires : tie.Need-packet-channel-requires
 packet-channel-requires c κs = search rules
 
 returns-2 : tie.Need-returns-2
-unfolding packetFits
+unfolding packet_fits
 returns-2 c =
     let a = c.before.before.before.before.args in
     simp (
@@ -39,7 +39,7 @@ add-result : tie.Need-overflow-add-result
 add-result c = search rules
 
 returns-3 : tie.Need-returns-3
-unfolding packetFits
+unfolding packet_fits
 returns-3 c =
     let a = c.before.before.before.before.before.args in
     held (ap (λ (t : ℕ). eqb t a.tag) (sym c.before.before.before.before.packet-tag.ensures) ∙ eq-eqb _ _
@@ -47,8 +47,8 @@ returns-3 c =
     (ap (λ (t : ℕ). eqb t a.channel) (sym c.before.before.packet-channel.ensures) ∙ eq-eqb _ _ c.before.if2.false)
     (ap (λ (t : ℕ). eqb t (two a.high a.low)) c.packet-register.ensures))
 
-pub packet-fits-spec : {M : Type 1} → statement M
-packet-fits-spec =
+pub packet_fits_spec : {M : Type 1} → statement M
+packet_fits_spec =
     tie.close
     (tie.spec
     packet-tag-requires

@@ -4,7 +4,7 @@ use mathlib.Core.Path.{sym, ap, ◌∙◌}
 use borrow.Author.Tests.{eq-eqb, ne_eqb}
 use Prim.Native.Nat.{ℕ}
 use lib.Dec.{eqb}
-use Rattle.host_rules.specs.ReaderBytes.{phaseFits}
+use Rattle.host_rules.specs.ReaderBytes.{phase_fits}
 use Rattle.host_reader_bytes.proofs.Tests.{held}
 use borrow.Author.Rules.{rules}
 use Rattle.host_reader_bytes.proofs.fits.phase_fits.Statement.{statement}
@@ -14,14 +14,14 @@ phase-tag-requires : tie.Need-phase-tag-requires
 phase-tag-requires c κs = search rules
 
 returns : tie.Need-returns
-unfolding phaseFits
+unfolding phase_fits
 returns c = simp (ap (λ (t : ℕ). eqb t c.before.before.args.tag) (sym c.before.phase-tag.ensures) ∙ ne_eqb _ _ c.if1.true)
 
 phase-first-requires : tie.Need-phase-first-requires
 phase-first-requires c κs = search rules
 
 returns-2 : tie.Need-returns-2
-unfolding phaseFits
+unfolding phase_fits
 returns-2 c =
     let a = c.before.before.before.before.args in
     simp (
@@ -33,7 +33,7 @@ phase-second-requires : tie.Need-phase-second-requires
 phase-second-requires c κs = search rules
 
 returns-3 : tie.Need-returns-3
-unfolding phaseFits
+unfolding phase_fits
 returns-3 c =
     let a = c.before.before.before.before.before.args in
     held (ap (λ (t : ℕ). eqb t a.tag) (sym c.before.before.before.before.phase-tag.ensures) ∙ eq-eqb _ _
@@ -41,8 +41,8 @@ returns-3 c =
     (ap (λ (t : ℕ). eqb t a.a) (sym c.before.before.phase-first.ensures) ∙ eq-eqb _ _ c.before.if2.false)
     (ap (λ (t : ℕ). eqb t a.b) c.phase-second.ensures))
 
-pub phase-fits-spec : {M : Type 1} → statement M
-phase-fits-spec =
+pub phase_fits_spec : {M : Type 1} → statement M
+phase_fits_spec =
     tie.close
     (tie.spec
     phase-tag-requires

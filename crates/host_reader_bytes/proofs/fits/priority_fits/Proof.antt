@@ -4,7 +4,7 @@ use mathlib.Core.Path.{sym, ap, ◌∙◌}
 use borrow.Author.Tests.{eq-eqb, ne_eqb}
 use Prim.Native.Nat.{ℕ}
 use lib.Dec.{eqb}
-use Rattle.host_rules.specs.ReaderBytes.{two, priorityFits}
+use Rattle.host_rules.specs.ReaderBytes.{two, priority_fits}
 use Rattle.host_reader_bytes.proofs.Tests.{held}
 use borrow.Author.Rules.{rules}
 use Rattle.host_reader_bytes.proofs.fits.priority_fits.Statement.{statement}
@@ -14,14 +14,14 @@ priority-tag-requires : tie.Need-priority-tag-requires
 priority-tag-requires c κs = search rules
 
 returns : tie.Need-returns
-unfolding priorityFits
+unfolding priority_fits
 returns c = simp (ap (λ (t : ℕ). eqb t c.before.before.args.tag) (sym c.before.priority-tag.ensures) ∙ ne_eqb _ _ c.if1.true)
 
 priority-opening-requires : tie.Need-priority-opening-requires
 priority-opening-requires c κs = search rules
 
 returns-2 : tie.Need-returns-2
-unfolding priorityFits
+unfolding priority_fits
 returns-2 c =
     let a = c.before.before.before.before.args in
     simp (
@@ -39,7 +39,7 @@ add-if3 : tie.Need-overflow-add-if3
 add-if3 c = search rules
 
 returns-3 : tie.Need-returns-3
-unfolding priorityFits
+unfolding priority_fits
 returns-3 c =
     let a = c.before.before.before.before.before.before.args in
     simp (
@@ -59,7 +59,7 @@ add-result : tie.Need-overflow-add-result
 add-result c = search rules
 
 returns-4 : tie.Need-returns-4
-unfolding priorityFits
+unfolding priority_fits
 returns-4 c =
     let a = c.before.before.before.before.before.before.before.args in
     held (ap (λ (t : ℕ). eqb t a.tag) (sym c.before.before.before.before.before.before.priority-tag.ensures) ∙ eq-eqb _ _
@@ -68,8 +68,8 @@ returns-4 c =
     (ap (λ (t : ℕ). eqb t (two a.count-high a.count_low)) (sym c.before.before.priority-count.ensures)
     ∙ eq-eqb _ _ c.before.if3.false) (ap (λ (t : ℕ). eqb t (two a.high a.low)) c.priority-register.ensures)))
 
-pub priority-fits-spec : {M : Type 1} → statement M
-priority-fits-spec =
+pub priority_fits_spec : {M : Type 1} → statement M
+priority_fits_spec =
     tie.close
     (tie.spec
     priority-tag-requires

@@ -10,14 +10,14 @@ use mathlib.Core.Bool.{true, false}
 use borrow.Author.Tests.{le-leb, lt-leb}
 use lib.ListN.{length, get_or, set, length-set}
 use lib.Seq.{paste, paste-zero, paste-suc}
-use Rattle.retry_parts.specs.Fits.{fitsAt}
-use Rattle.retry_rules.proofs.Laid.{laid-paste}
+use Rattle.retry_parts.specs.Fits.{fits_at}
+use Rattle.retry_rules.proofs.Laid.{laid_paste}
 use Rattle.retry_parts.proofs.lent.lay.Statement.{statement}
 use Rattle.retry_parts.proofs.lent.lay.Tie as tie
 
 record Laying (bytes into₀ : List ℕ) (at : ℕ) (into : List ℕ) (i to : ℕ) : Type 0 where
   place : to ≡ at + i
-  laid-so-far : into ≡ paste into₀ at bytes i
+  laid_so_far : into ≡ paste into₀ at bytes i
   within : i ≤ length bytes
   same : length into ≡ length into₀
 
@@ -34,8 +34,8 @@ turned bytes into₀ at into i to room more l =
     let p = l.place in
     record {
       place = omega arith;
-      laid-so-far =
-          ap (λ (x : List ℕ). set x to (get_or bytes i 0)) l.laid-so-far
+      laid_so_far =
+          ap (λ (x : List ℕ). set x to (get_or bytes i 0)) l.laid_so_far
           ∙ ap (λ (k : ℕ). set (paste into₀ at bytes i) k (get_or bytes i 0)) p
           ∙ paste-suc into₀ at bytes i 0 (omega arith) more
           ∙ ap (paste into₀ at bytes) (sym (add-one i));
@@ -50,7 +50,7 @@ room c = omega (arith, c.if2.false, c.before.if1.false)
 returns : tie.Need-returns invariant-loop decreases-loop
 returns c =
     let a = c.before.args in
-    let far : fitsAt a.into.now a.at a.bytes.now ≡ false = lt-leb (a.at + length a.bytes.now) (length a.into.now) (omega (arith, c.if1.true)) in
+    let far : fits_at a.into.now a.at a.bytes.now ≡ false = lt-leb (a.at + length a.bytes.now) (length a.into.now) (omega (arith, c.if1.true)) in
     (simp far, simp far)
 
 sub-if2 : tie.Need-overflow-sub-if2 invariant-loop decreases-loop
@@ -59,13 +59,13 @@ sub-if2 c = omega arith
 returns-2 : tie.Need-returns-2 invariant-loop decreases-loop
 returns-2 c =
     let a = c.before.before.args in
-    let long : fitsAt a.into.now a.at a.bytes.now ≡ false = lt-leb (a.at + length a.bytes.now) (length a.into.now) (omega (arith, c.if2.true)) in
+    let long : fits_at a.into.now a.at a.bytes.now ≡ false = lt-leb (a.at + length a.bytes.now) (length a.into.now) (omega (arith, c.if2.true)) in
     (simp long, simp long)
 
 loop-holds : tie.Need-loop-init invariant-loop decreases-loop
 loop-holds c =
     let a = c.before.before.args in
-    record { place = omega arith; laid-so-far = paste-zero a.into.now a.at a.bytes.now; within = omega arith; same = refl }
+    record { place = omega arith; laid_so_far = paste-zero a.into.now a.at a.bytes.now; within = omega arith; same = refl }
 
 shared-slice-read-into : tie.Need-shared-slice-read-into invariant-loop decreases-loop
 shared-slice-read-into c = omega arith
@@ -92,15 +92,15 @@ returns-3 : tie.Need-returns-3 invariant-loop decreases-loop
 returns-3 c =
     let a = c.before.before.before.before.args in
     let l = c.before.loop.invariant in
-    let fits : fitsAt a.into.now a.at a.bytes.now ≡ true = le-leb (a.at + length a.bytes.now) (length a.into.now) (room c.before.before) in (
+    let fits : fits_at a.into.now a.at a.bytes.now ≡ true = le-leb (a.at + length a.bytes.now) (length a.into.now) (room c.before.before) in (
       simp fits,
       simp fits
-          (l.laid-so-far ∙ ap (paste a.into.now a.at a.bytes.now) (le_antisymm l.within c.loop-test.false)
-          ∙ laid-paste a.into.now a.at a.bytes.now),
+          (l.laid_so_far ∙ ap (paste a.into.now a.at a.bytes.now) (le_antisymm l.within c.loop-test.false)
+          ∙ laid_paste a.into.now a.at a.bytes.now),
     )
 
-pub lay-spec : {M : Type 1} → statement M
-lay-spec =
+pub lay_spec : {M : Type 1} → statement M
+lay_spec =
     tie.close
     (tie.spec
     invariant-loop

@@ -11,5 +11,5 @@ returns c = simp c.if1.true
 returns-2 : tie.Need-returns-2
 returns-2 c = simp (lt-ltb 0 c.before.args.columns (omega arith))
 
-pub time-is-allowed-spec : {M : Type 1} → statement M
-time-is-allowed-spec = tie.close (tie.spec returns returns-2)
+pub time_is_allowed_spec : {M : Type 1} → statement M
+time_is_allowed_spec = tie.close (tie.spec returns returns-2)

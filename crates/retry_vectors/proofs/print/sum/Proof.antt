@@ -39,8 +39,8 @@ loop-again c = search rules
 returns : tie.Need-returns invariant-loop decreases-loop
 returns c = search rules
 
-pub sum-spec : {M : Type 1} → statement M
-sum-spec =
+pub sum_spec : {M : Type 1} → statement M
+sum_spec =
     tie.close
     (tie.spec
     invariant-loop

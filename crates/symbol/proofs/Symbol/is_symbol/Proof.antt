@@ -13,5 +13,5 @@ returns c = simp (c.before.if1.true, c.is-twelve.ensures)
 returns-2 : tie.Need-returns-2
 returns-2 c = search rules
 
-pub is-symbol-spec : {M : Type 1} → statement M
-is-symbol-spec = tie.close (tie.spec is-twelve-requires returns returns-2)
+pub is_symbol_spec : {M : Type 1} → statement M
+is_symbol_spec = tie.close (tie.spec is-twelve-requires returns returns-2)

@@ -19,5 +19,5 @@ returns-3 c =
     let b1 = c.before in let b2 = b1.before in let b3 = b2.before in let b4 = b3.before in
     simp (not-false b4.args.self.control b2.if1.false, ne_eqb _ _ b1.if2.false, c.is-twelve.ensures)
 
-pub is-writable-spec : {M : Type 1} → statement M
-is-writable-spec = tie.close (tie.spec returns returns-2 is-twelve-requires returns-3)
+pub is_writable_spec : {M : Type 1} → statement M
+is_writable_spec = tie.close (tie.spec returns returns-2 is-twelve-requires returns-3)

@@ -10,5 +10,5 @@ returns c = simp c.if1.true
 returns-2 : tie.Need-returns-2
 returns-2 c = search rules
 
-pub opens-lmp-spec : {M : Type 1} → statement M
-opens-lmp-spec = tie.close (tie.spec returns returns-2)
+pub opens_lmp_spec : {M : Type 1} → statement M
+opens_lmp_spec = tie.close (tie.spec returns returns-2)

@@ -14,5 +14,5 @@ returns-2 c = simp (c.before.if1.true, ne_eqb _ _ c.if2.false)
 returns-3 : tie.Need-returns-3
 returns-3 c = search rules
 
-pub opens-packet-spec : {M : Type 1} → statement M
-opens-packet-spec = tie.close (tie.spec returns returns-2 returns-3)
+pub opens_packet_spec : {M : Type 1} → statement M
+opens_packet_spec = tie.close (tie.spec returns returns-2 returns-3)
