@@ -1,7 +1,9 @@
 // What writing and reading a character answer. The rules are in specs/, the theorems about them in proofs/.
+#![tactic(auto)]
+
 use symbol::Symbol;
 
-#[derive(Drop)]
+#[derive(Clone, Copy)]
 pub enum Encoded {
     // The character's number, and the closing disparity.
     Written { character: u16, disparity: i32 },
@@ -9,7 +11,7 @@ pub enum Encoded {
     Refused(u8),
 }
 
-#[derive(Drop)]
+#[derive(Clone, Copy)]
 pub enum Decoded {
     // Legal at the disparity in force: the symbol, and the disparity after it.
     Clean(Symbol, i32),
@@ -21,7 +23,7 @@ pub enum Decoded {
     Refused(u8),
 }
 
-#[derive(Drop)]
+#[derive(Clone, Copy)]
 pub enum RunRead {
     // The disparity after the run.
     Read(i32),
@@ -29,7 +31,7 @@ pub enum RunRead {
     Refused(u8),
 }
 
-#[derive(Drop)]
+#[derive(Clone, Copy)]
 pub enum RunWritten {
     // The disparity after the run.
     Written(i32),

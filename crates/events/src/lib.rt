@@ -15,7 +15,7 @@ use events_rules::CaptureRead;
 use packet_rules::Reader;
 
 // Where reading stands: the next character, whether the disparity is +1, and the reader's state.
-#[derive(Drop)]
+#[derive(Clone, Copy)]
 pub struct Place {
     pub at: usize,
     pub plus: bool,

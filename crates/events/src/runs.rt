@@ -12,7 +12,7 @@ use packet_open::register_in;
 use packet_rules::{DataPacket, Phase, PriorityPacket, Reader};
 
 // Where a run of bytes stands: the next character, whether the disparity is +1, and the packet's register.
-#[derive(Drop)]
+#[derive(Clone, Copy)]
 pub struct Taken {
     pub at: usize,
     pub plus: bool,

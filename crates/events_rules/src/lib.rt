@@ -1,7 +1,7 @@
 // What reading a whole capture answers. The rules are in specs/, the theorems about them in proofs/.
 use packet_rules::Reader;
 
-#[derive(Drop)]
+#[derive(Clone, Copy)]
 pub struct CaptureRead {
     // The number of the refusal; 0 for none.
     pub refusal: u8,

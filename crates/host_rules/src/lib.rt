@@ -1,7 +1,7 @@
 // What the C host is answered, in numbers and bytes. The definitions are in specs/, what follows from them in proofs/; there is no code here.
 
 // What one step of the packet reader answers: the refusal's number (0: none), the event, and its two numbers.
-#[derive(Drop)]
+#[derive(Clone, Copy)]
 pub struct Told {
     pub refusal: u32,
     pub event: u32,

@@ -9,7 +9,7 @@ use listing_rules::Reached;
 use packet_rules::{Event, Reader};
 
 // How the lines of a run stand so far: the index after them, the events, and the reader after the run.
-#[derive(Drop)]
+#[derive(Clone, Copy)]
 pub struct Progress {
     pub at: usize,
     pub events: usize,

@@ -2,7 +2,7 @@
 use packet_rules::Reader;
 
 // The characters before a place are listed: so many events, the disparity there, and the reader after them.
-#[derive(Drop)]
+#[derive(Clone, Copy)]
 pub struct Reached {
     pub place: usize,
     pub events: usize,
@@ -10,7 +10,7 @@ pub struct Reached {
     pub reader: Reader,
 }
 
-#[derive(Drop)]
+#[derive(Clone, Copy)]
 pub enum Listing {
     // Nothing is listed yet.
     Fresh,
@@ -20,7 +20,7 @@ pub enum Listing {
     Ended,
 }
 
-#[derive(Drop)]
+#[derive(Clone, Copy)]
 pub enum Piece {
     // So many bytes were put at the front of the output.
     Written(usize),
@@ -31,7 +31,7 @@ pub enum Piece {
 }
 
 // What asking for the next piece answers, and the listing after it.
-#[derive(Drop)]
+#[derive(Clone, Copy)]
 pub struct Next {
     pub piece: Piece,
     pub listing: Listing,

@@ -13,7 +13,7 @@ use packet_rules::{
 use symbol::Symbol;
 
 // A symbol's kind, if it is a symbol.
-#[derive(Drop)]
+#[derive(Clone, Copy)]
 pub enum Class {
     Known(Kind),
     Unknown,

@@ -1,7 +1,7 @@
 // What the packet reader is given, holds and answers. The rules are in specs/, the theorems about them in proofs/.
 
 // What the reader gives for one character result.
-#[derive(Drop)]
+#[derive(Clone, Copy)]
 pub enum Event {
     Nothing,
     // A data packet: the channel.
@@ -18,7 +18,7 @@ pub enum Event {
 }
 
 // The symbols that open something: a data packet, a priority packet, an LMP.
-#[derive(Drop)]
+#[derive(Clone, Copy)]
 pub enum Opener {
     Sdp,
     Spp,
@@ -26,7 +26,7 @@ pub enum Opener {
 }
 
 // What the reader tells apart among the symbols.
-#[derive(Drop)]
+#[derive(Clone, Copy)]
 pub enum Kind {
     Data(u8),
     Idl,
@@ -41,7 +41,7 @@ pub enum Kind {
 }
 
 // The data packet that is open: its channel, whether a byte has come, the CRC register over its bytes.
-#[derive(Drop)]
+#[derive(Clone, Copy)]
 pub enum DataPacket {
     NoData,
     InData {
@@ -52,7 +52,7 @@ pub enum DataPacket {
 }
 
 // The priority packet that is open: the byte after SPP, how many bytes came, the CRC register over them.
-#[derive(Drop)]
+#[derive(Clone, Copy)]
 pub enum PriorityPacket {
     NoPriority,
     InPriority {
@@ -63,7 +63,7 @@ pub enum PriorityPacket {
 }
 
 // The byte that a begun sequence is due. The mark is carried to the end, the bytes so far to the check.
-#[derive(Drop)]
+#[derive(Clone, Copy)]
 pub enum Due {
     Channel,
     Opening,
@@ -75,7 +75,7 @@ pub enum Due {
     LmpCheck(u8, u8),
 }
 
-#[derive(Drop)]
+#[derive(Clone, Copy)]
 pub enum Phase {
     // No sequence is begun.
     Free,
@@ -85,7 +85,7 @@ pub enum Phase {
     Dropping,
 }
 
-#[derive(Drop)]
+#[derive(Clone, Copy)]
 pub struct Reader {
     // S, the segment size.
     pub size: u16,
@@ -95,14 +95,14 @@ pub struct Reader {
 }
 
 // What a step answers, and the state after it.
-#[derive(Drop)]
+#[derive(Clone, Copy)]
 pub struct Step {
     pub event: Event,
     pub reader: Reader,
 }
 
 // What asking for a fresh reader answers.
-#[derive(Drop)]
+#[derive(Clone, Copy)]
 pub enum FreshReader {
     Ready(Reader),
     // The number of the refusal.
@@ -110,7 +110,7 @@ pub enum FreshReader {
 }
 
 // What writing a packet answers.
-#[derive(Drop)]
+#[derive(Clone, Copy)]
 pub enum Written {
     // How many characters were written, and the closing disparity.
     Done { count: usize, disparity: i32 },

@@ -12,7 +12,7 @@ use packet_rules::Written;
 use symbol::Symbol;
 
 // A place in the output, and the disparity there.
-#[derive(Drop)]
+#[derive(Clone, Copy)]
 pub struct Place {
     pub at: usize,
     pub disparity: i32,

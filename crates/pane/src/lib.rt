@@ -7,7 +7,7 @@ use capture::character_at;
 use capture_rules::{Answer, Move};
 use pane_moves::{back_from, forward_from, place_in};
 
-#[derive(Drop)]
+#[derive(Clone, Copy)]
 pub struct Pane<'a> {
     pub capture: &'a [u8],
     pub place: usize,

@@ -1,4 +1,5 @@
 // The numbers of document 01's table of refusals, by name.
+#![tactic(auto)]
 
 // A number is out of range, or a state breaks its written rule.
 pub const OUT_OF_RANGE: u8 = 1;

@@ -8,14 +8,14 @@ ghost use Rattle.retry_buffers_in_place.specs.Beside.{offer_beside, send_beside}
 use retry_rules::Sender;
 
 // What an offer answers beside the sender.
-#[derive(Drop)]
+#[derive(Clone, Copy)]
 pub struct OfferAnswer {
     pub refusal: u8,
     pub number: u8,
 }
 
 // What a send answers beside the sender.
-#[derive(Drop)]
+#[derive(Clone, Copy)]
 pub struct SendAnswer {
     pub refusal: u8,
     pub sent: bool,

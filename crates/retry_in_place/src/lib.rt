@@ -9,7 +9,7 @@ ghost use Rattle.retry_in_place.specs.Beside.{tick_beside};
 use retry_rules::Sender;
 
 // What a tick answers beside the sender.
-#[derive(Drop)]
+#[derive(Clone, Copy)]
 pub struct TickAnswer {
     pub refusal: u8,
     pub fell: bool,

@@ -6,7 +6,7 @@ pub const UP: u8 = 1;
 pub const DOWN: u8 = 2;
 
 // The sender's numbers. All zeros is no sender: its link is neither up nor down.
-#[derive(Drop)]
+#[derive(Clone, Copy)]
 pub struct Counters {
     // the number of the oldest segment, the first not released
     pub oldest: u8,
@@ -30,21 +30,21 @@ pub struct Counters {
 }
 
 // What each of the eight buffers holds beside its bytes. Segment number k is in buffer k mod 8.
-#[derive(Drop)]
+#[derive(Clone, Copy)]
 pub struct Slots {
     pub lengths: [u16; 8],
     pub channels: [u8; 8],
     pub bad: [bool; 8],
 }
 
-#[derive(Drop)]
+#[derive(Clone, Copy)]
 pub struct Sender {
     pub counters: Counters,
     pub slots: Slots,
 }
 
 // All zeros is no receiver: S is not allowed.
-#[derive(Drop)]
+#[derive(Clone, Copy)]
 pub struct Receiver {
     pub expected: u8,
     // how many of the last eight numbers before the expected one were really received
@@ -56,14 +56,14 @@ pub struct Receiver {
 // In each answer `refusal` is the number of document 01's table, 0 for none; a refusal brings zeros beside the state that was given.
 
 // What a fresh sender, a reply, a damaged reply and a reset answer.
-#[derive(Drop)]
+#[derive(Clone, Copy)]
 pub struct Answered {
     pub refusal: u8,
     pub sender: Sender,
 }
 
 // An offer that is accepted answers with its segment number.
-#[derive(Drop)]
+#[derive(Clone, Copy)]
 pub struct Offered {
     pub refusal: u8,
     pub number: u8,
@@ -71,7 +71,7 @@ pub struct Offered {
 }
 
 // `sent` false and no refusal: there was nothing to send.
-#[derive(Drop)]
+#[derive(Clone, Copy)]
 pub struct Sent {
     pub refusal: u8,
     pub sent: bool,
@@ -83,7 +83,7 @@ pub struct Sent {
 }
 
 // `fell`: this tick took the link down.
-#[derive(Drop)]
+#[derive(Clone, Copy)]
 pub struct Ticked {
     pub refusal: u8,
     pub fell: bool,
@@ -91,14 +91,14 @@ pub struct Ticked {
 }
 
 // What a fresh receiver answers.
-#[derive(Drop)]
+#[derive(Clone, Copy)]
 pub struct Begun {
     pub refusal: u8,
     pub receiver: Receiver,
 }
 
 // The reply is ACK or NACK with `number`. What is delivered has a channel, a bad mark and a length; where nothing is delivered they are zeros.
-#[derive(Drop)]
+#[derive(Clone, Copy)]
 pub struct Arrived {
     pub refusal: u8,
     pub delivered: bool,

@@ -15,13 +15,13 @@ use crate::settings::{set_receiver, set_sender};
 // A call is 16 bytes: what is called, a flag byte, a seed, a spare byte, and three numbers of four bytes.
 const CALL: usize = 16;
 
-#[derive(Drop)]
+#[derive(Clone, Copy)]
 struct Part {
     from: usize,
     to: usize,
 }
 
-#[derive(Drop)]
+#[derive(Clone, Copy)]
 struct World {
     sender: Sender,
     receiver: Receiver,

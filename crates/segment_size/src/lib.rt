@@ -1,4 +1,6 @@
 // S, the segment size: whether one is allowed.
+#![tactic(auto)]
+
 ghost use Rattle.std.specs.Prelude.{◌≡◌};
 ghost use Rattle.segment_size.specs.Sizes.{size_allowed};
 

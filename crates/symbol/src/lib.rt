@@ -1,8 +1,10 @@
 // A symbol: a byte and a control mark. Its named values, what kind it is, and how one is made.
+#![tactic(auto)]
+
 ghost use Rattle.std.specs.Prelude.{◌≡◌};
 ghost use Rattle.symbol.specs.Symbols.{named, data_symbol, control_symbol, is_twelve, is_symbol, is_writable, opens_packet, opens_lmp};
 
-#[derive(Drop)]
+#[derive(Clone, Copy)]
 pub struct Symbol {
     pub byte: u8,
     pub control: bool,
