@@ -1,4 +1,6 @@
 // Captures: ten-bit characters packed into bytes. Their number, whether one is legal, and the character at a place.
+#![tactic(auto)]
+
 ghost use Rattle.std.specs.Prelude.{◌≡◌, ◌+◌, ◌*◌, ◌/◌, ◌%◌, ◌^◌, get_or};
 ghost use Rattle.capture_rules.specs.Capture.{characters_of, legal};
 ghost use Rattle.capture_rules.specs.Calls.{says, count_says, character_says};

@@ -1,4 +1,6 @@
 // The reader of characters: one look-up in a constant table.
+#![tactic(auto)]
+
 ghost use Rattle.std.specs.Prelude.{◌≡◌, ◌<◌};
 ghost use Rattle.character_rules.specs.Disparity.{disparity_of};
 ghost use Rattle.character_rules.specs.Answers.{reading_says};

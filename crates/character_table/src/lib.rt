@@ -1,4 +1,6 @@
 // The reader's table: for each of 1,024 characters its packed results at both disparities. specs/Entries.antt says how an entry holds them.
+#![tactic(auto)]
+
 pub const TABLE: [u16; 1024] = [
     20992, 20992, 20992, 20992, 20992, 20992, 20992, 20992, 20992, 20992, 20992, 20992, 20992,
     20992, 20992, 20992, 20992, 20992, 20992, 20992, 20992, 20992, 20992, 20992, 20992, 20992,

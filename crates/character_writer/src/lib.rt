@@ -1,4 +1,6 @@
 // The writer of characters: two blocks, each chosen at the disparity in force when it begins.
+#![tactic(auto)]
+
 ghost use Rattle.std.specs.Prelude.{◌≡◌, ◌<◌, ◌≤◌, cond, T, neg_ℤ};
 ghost use Rattle.character_rules.specs.Disparity.{is_disparity};
 ghost use Rattle.character_rules.specs.Blocks.{unbalanced, in_force, six_listed, six_changes, six_block};

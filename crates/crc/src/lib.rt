@@ -1,4 +1,6 @@
 // CRC-16 of a run of bytes. A register is a u16 whose lowest bit is X15.
+#![tactic(auto)]
+
 pub mod table;
 
 ghost use Rattle.std.specs.Prelude.{◌≡◌};

@@ -1,4 +1,6 @@
 // Disparity is -1 or +1, a signed number.
+#![tactic(auto)]
+
 ghost use Rattle.std.specs.Prelude.{◌≡◌};
 ghost use Rattle.character_rules.specs.Disparity.{is_plus, is_minus, is_disparity, disparity_of};
 

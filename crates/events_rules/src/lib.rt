@@ -1,4 +1,6 @@
 // What reading a whole capture answers. The rules are in specs/, the theorems about them in proofs/.
+#![tactic(auto)]
+
 use packet_rules::Reader;
 
 #[derive(Clone, Copy)]

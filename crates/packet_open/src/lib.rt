@@ -1,4 +1,6 @@
 // What is open in a state.
+#![tactic(auto)]
+
 ghost use Rattle.std.specs.Prelude.{◌≡◌};
 ghost use Rattle.packet_rules.specs.State.{no_priority, outside, has_byte, opening_byte, register_in};
 

@@ -1,4 +1,5 @@
 // What the packet reader is given, holds and answers. The rules are in specs/, the theorems about them in proofs/.
+#![tactic(auto)]
 
 // What the reader gives for one character result.
 #[derive(Clone, Copy)]

@@ -1,4 +1,5 @@
 // The states of both ends of the retry and what each call answers. The rules of them are in specs/, the theorems in proofs/; there is no code here.
+#![tactic(auto)]
 
 // The sender's link.
 pub const UP: u8 = 1;
