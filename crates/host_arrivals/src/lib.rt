@@ -22,7 +22,7 @@ pub extern "C" fn buzz_receiver_arrival(
     reply: &mut u32,
 ) -> u32
     ensures { (let old : Arrives = record {
-      receiver = receiver.entry.now;
+      receiver = receiver.old;
       output = output.old;
       delivered = delivered.old;
       channel = delivered_channel.old;
@@ -32,7 +32,7 @@ pub extern "C" fn buzz_receiver_arrival(
       reply = reply.old;
     } in
         let after = arrives number channel bad bytes.now room old in
-        (result ≡ after.refusal) × (receiver.exit.now ≡ after.lent.receiver) × (output.new ≡ after.lent.output)
+        (result ≡ after.refusal) × (receiver.new ≡ after.lent.receiver) × (output.new ≡ after.lent.output)
         × (delivered.new ≡ after.lent.delivered) × (delivered_channel.new ≡ after.lent.channel)
         × (delivered_bad.new ≡ after.lent.bad) × (delivered_length.new ≡ after.lent.size)
         × (nack.new ≡ after.lent.nack) × (reply.new ≡ after.lent.reply)) }

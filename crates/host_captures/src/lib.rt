@@ -38,8 +38,8 @@ pub extern "C" fn buzz_capture_character(capture: &[u8], place: usize, character
 // Characters packed into the front of a lent run of bytes, and their number of bytes.
 #[unsafe(no_mangle)]
 pub extern "C" fn buzz_pack(characters: &[u16], capture: &mut [u8], bytes: &mut usize) -> u32
-    ensures { let after = packs characters.now (record { capture = capture.entry.now; bytes = bytes.old }) in
-        (result ≡ after.refusal) × (capture.exit.now ≡ after.lent.capture) × (bytes.new ≡ after.lent.bytes) }
+    ensures { let after = packs characters.now (record { capture = capture.old; bytes = bytes.old }) in
+        (result ≡ after.refusal) × (capture.new ≡ after.lent.capture) × (bytes.new ≡ after.lent.bytes) }
 {
     let answer = capture_packing::pack(characters, capture);
     match answer {
@@ -54,8 +54,8 @@ pub extern "C" fn buzz_pack(characters: &[u16], capture: &mut [u8], bytes: &mut 
 // A capture's characters in the front of a lent run, and their number.
 #[unsafe(no_mangle)]
 pub extern "C" fn buzz_unpack(capture: &[u8], characters: &mut [u16], count: &mut usize) -> u32
-    ensures { let after = unpacks capture.now (record { characters = characters.entry.now; count = count.old }) in
-        (result ≡ after.refusal) × (characters.exit.now ≡ after.lent.characters) × (count.new ≡ after.lent.count) }
+    ensures { let after = unpacks capture.now (record { characters = characters.old; count = count.old }) in
+        (result ≡ after.refusal) × (characters.new ≡ after.lent.characters) × (count.new ≡ after.lent.count) }
 {
     let answer = capture_unpacking::unpack(capture, characters);
     match answer {

@@ -14,8 +14,8 @@ pub extern "C" fn buzz_write_character(
     disparity: &mut i32,
     character: &mut u32,
 ) -> u32
-    ensures { let after = writes byte control (record { disparity = disparity.entry.now; character = character.old }) in
-        (result ≡ after.refusal) × (disparity.exit.now ≡ after.lent.disparity) × (character.new ≡ after.lent.character) }
+    ensures { let after = writes byte control (record { disparity = disparity.old; character = character.old }) in
+        (result ≡ after.refusal) × (disparity.new ≡ after.lent.disparity) × (character.new ≡ after.lent.character) }
 {
     if 255 < byte {
         return refusal::OUT_OF_RANGE as u32;
@@ -48,13 +48,13 @@ pub extern "C" fn buzz_read_character(
     control: &mut u32,
 ) -> u32
     ensures { (let old : Reads = record {
-      disparity = disparity.entry.now;
+      disparity = disparity.old;
       violation = violation.old;
       byte = byte.old;
       control = control.old;
     } in
         let after = reads character old in
-        (result ≡ after.refusal) × (disparity.exit.now ≡ after.lent.disparity) × (violation.new ≡ after.lent.violation)
+        (result ≡ after.refusal) × (disparity.new ≡ after.lent.disparity) × (violation.new ≡ after.lent.violation)
         × (byte.new ≡ after.lent.byte) × (control.new ≡ after.lent.control)) }
 {
     let answer = character_reader::read(character, *disparity);
@@ -91,8 +91,8 @@ pub extern "C" fn buzz_read_characters(
     disparity: &mut i32,
     results: &mut [u16],
 ) -> u32
-    ensures { let after = reads_run characters.now (record { disparity = disparity.entry.now; results = results.old }) in
-        (result ≡ after.refusal) × (disparity.exit.now ≡ after.lent.disparity) × (results.new ≡ after.lent.results) }
+    ensures { let after = reads_run characters.now (record { disparity = disparity.old; results = results.old }) in
+        (result ≡ after.refusal) × (disparity.new ≡ after.lent.disparity) × (results.new ≡ after.lent.results) }
 {
     let answer = run_reader::read_run(characters, *disparity, results);
     match answer {

@@ -42,13 +42,13 @@ pub extern "C" fn buzz_read_capture(
     count: &mut usize,
 ) -> u32
     ensures { (let old : ReadsCapture = record {
-      reader = reader.entry.now;
+      reader = reader.old;
       disparity = disparity.old;
       events = events.old;
       count = count.old;
     } in
         let after = reads_capture capture.now old in
-        (result ≡ after.refusal) × (reader.exit.now ≡ after.lent.reader) × (disparity.new ≡ after.lent.disparity)
+        (result ≡ after.refusal) × (reader.new ≡ after.lent.reader) × (disparity.new ≡ after.lent.disparity)
         × (events.new ≡ after.lent.events) × (count.new ≡ after.lent.count)) }
 {
     let done = read(capture, *reader, *disparity, events);

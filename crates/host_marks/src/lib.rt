@@ -1,4 +1,6 @@
 // A mark that is handed out.
+#![tactic(auto)]
+
 ghost use Rattle.std.specs.Prelude.{◌≡◌};
 ghost use Rattle.host_rules.specs.Numbers.{mark_number};
 

@@ -14,9 +14,9 @@ pub extern "C" fn buzz_sender_offer(
     bytes: &[u8],
     number: &mut u32,
 ) -> u32
-    ensures { (let old : Offers = record { sender = sender.entry.now; buffers = buffers.old; number = number.old } in
+    ensures { (let old : Offers = record { sender = sender.old; buffers = buffers.old; number = number.old } in
         let after = offers channel bad bytes.now old in
-        (result ≡ after.refusal) × (sender.exit.now ≡ after.lent.sender) × (buffers.new ≡ after.lent.buffers)
+        (result ≡ after.refusal) × (sender.new ≡ after.lent.sender) × (buffers.new ≡ after.lent.buffers)
         × (number.new ≡ after.lent.number)) }
 {
     let given = host_retry::sender_in(*sender);
@@ -43,7 +43,7 @@ pub extern "C" fn buzz_sender_send(
     bytes: &mut u32,
 ) -> u32
     ensures { (let old : Sends = record {
-      sender = sender.entry.now;
+      sender = sender.old;
       output = output.old;
       sent = sent.old;
       number = number.old;
@@ -52,7 +52,7 @@ pub extern "C" fn buzz_sender_send(
       size = bytes.old;
     } in
         let after = sends buffers.now old in
-        (result ≡ after.refusal) × (sender.exit.now ≡ after.lent.sender) × (output.new ≡ after.lent.output)
+        (result ≡ after.refusal) × (sender.new ≡ after.lent.sender) × (output.new ≡ after.lent.output)
         × (sent.new ≡ after.lent.sent) × (number.new ≡ after.lent.number) × (channel.new ≡ after.lent.channel)
         × (bad.new ≡ after.lent.bad) × (bytes.new ≡ after.lent.size)) }
 {

@@ -31,13 +31,13 @@ pub extern "C" fn buzz_reader_step(
     number: &mut u32,
 ) -> u32
     ensures { (let old : Steps = record {
-      reader = reader.entry.now;
+      reader = reader.old;
       event = event.old;
       value = value.old;
       number = number.old;
     } in
         let after = steps violation byte control old in
-        (result ≡ after.refusal) × (reader.exit.now ≡ after.lent.reader) × (event.new ≡ after.lent.event)
+        (result ≡ after.refusal) × (reader.new ≡ after.lent.reader) × (event.new ≡ after.lent.event)
         × (value.new ≡ after.lent.value) × (number.new ≡ after.lent.number)) }
 {
     let step = host_steps::step(*reader, violation, byte, control);

@@ -16,9 +16,9 @@ pub extern "C" fn buzz_write_data(
     characters: &mut [u16],
     count: &mut usize,
 ) -> u32
-    ensures { (let old : WritesPacket = record { disparity = disparity.entry.now; characters = characters.old; count = count.old } in
+    ensures { (let old : WritesPacket = record { disparity = disparity.old; characters = characters.old; count = count.old } in
         let after = writes_packet 0 (in_data channel bytes.now (mark_of bad)) old in
-        (result ≡ after.refusal) × (disparity.exit.now ≡ after.lent.disparity) × (characters.new ≡ after.lent.characters)
+        (result ≡ after.refusal) × (disparity.new ≡ after.lent.disparity) × (characters.new ≡ after.lent.characters)
         × (count.new ≡ after.lent.count)) }
 {
     let answer = packet_writer::write_data(channel, bytes, bad != 0, *disparity, characters);
@@ -47,9 +47,9 @@ pub extern "C" fn buzz_write_priority(
     characters: &mut [u16],
     count: &mut usize,
 ) -> u32
-    ensures { (let old : WritesPacket = record { disparity = disparity.entry.now; characters = characters.old; count = count.old } in
+    ensures { (let old : WritesPacket = record { disparity = disparity.old; characters = characters.old; count = count.old } in
         let after = writes_packet size (in_priority channel segment bytes.now (mark_of bad)) old in
-        (result ≡ after.refusal) × (disparity.exit.now ≡ after.lent.disparity) × (characters.new ≡ after.lent.characters)
+        (result ≡ after.refusal) × (disparity.new ≡ after.lent.disparity) × (characters.new ≡ after.lent.characters)
         × (count.new ≡ after.lent.count)) }
 {
     let answer = packet_writer::write_priority(
@@ -83,9 +83,9 @@ pub extern "C" fn buzz_write_lmp(
     characters: &mut [u16],
     count: &mut usize,
 ) -> u32
-    ensures { (let old : WritesPacket = record { disparity = disparity.entry.now; characters = characters.old; count = count.old } in
+    ensures { (let old : WritesPacket = record { disparity = disparity.old; characters = characters.old; count = count.old } in
         let after = writes_packet 0 (retry (mark_of nack) number) old in
-        (result ≡ after.refusal) × (disparity.exit.now ≡ after.lent.disparity) × (characters.new ≡ after.lent.characters)
+        (result ≡ after.refusal) × (disparity.new ≡ after.lent.disparity) × (characters.new ≡ after.lent.characters)
         × (count.new ≡ after.lent.count)) }
 {
     let answer = packet_writer::write_lmp(nack != 0, number, *disparity, characters);

@@ -1,4 +1,6 @@
 // The packet reader's state from its 15 bytes.
+#![tactic(auto)]
+
 ghost use Rattle.std.specs.Prelude.{◌≡◌};
 ghost use Rattle.host_rules.specs.ReaderBytes.{two, packet_of, priority_of, phase_of, reader_in};
 

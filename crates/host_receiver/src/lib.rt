@@ -25,9 +25,9 @@ pub extern "C" fn buzz_receiver_damaged_arrival(
     nack: &mut u32,
     reply: &mut u32,
 ) -> u32
-    ensures { (let old : ArrivesDamaged = record { receiver = receiver.entry.now; nack = nack.old; reply = reply.old } in
+    ensures { (let old : ArrivesDamaged = record { receiver = receiver.old; nack = nack.old; reply = reply.old } in
         let after = arrives_damaged old in
-        (result ≡ after.refusal) × (receiver.exit.now ≡ after.lent.receiver) × (nack.new ≡ after.lent.nack) × (reply.new ≡ after.lent.reply)) }
+        (result ≡ after.refusal) × (receiver.new ≡ after.lent.receiver) × (nack.new ≡ after.lent.nack) × (reply.new ≡ after.lent.reply)) }
 {
     let given = host_receiver_bytes::receiver_in(*receiver);
     let dropped = retry_receiver::damaged_arrival(given);

@@ -37,8 +37,8 @@ pub extern "C" fn buzz_sender_damaged_reply(sender: &mut [u8; 38]) -> u32
 // One column of the timer; `fell` says that this tick took the link down.
 #[unsafe(no_mangle)]
 pub extern "C" fn buzz_sender_tick(sender: &mut [u8; 38], fell: &mut u32) -> u32
-    ensures { let after = ticks (record { sender = sender.entry.now; fell = fell.old }) in
-        (result ≡ after.refusal) × (sender.exit.now ≡ after.lent.sender) × (fell.new ≡ after.lent.fell) }
+    ensures { let after = ticks (record { sender = sender.old; fell = fell.old }) in
+        (result ≡ after.refusal) × (sender.new ≡ after.lent.sender) × (fell.new ≡ after.lent.fell) }
 {
     let given = host_retry::sender_in(*sender);
     let ticked = retry_timer::tick(given);

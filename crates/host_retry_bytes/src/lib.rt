@@ -1,4 +1,6 @@
 // The sender's state as bytes, to be stored in lent ones.
+#![tactic(auto)]
+
 ghost use Rattle.std.specs.Prelude.{◌≡◌, ◌≤◌, ◌/◌};
 ghost use Rattle.host_rules.specs.Numbers.{mark_number};
 ghost use Rattle.host_retry_rules.specs.SenderBytes.{mask_of, sender_bytes};

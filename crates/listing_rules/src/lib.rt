@@ -1,4 +1,6 @@
 // Where a listing stands, and what asking for its next piece answers. The rules are in specs/, the theorems about them in proofs/.
+#![tactic(auto)]
+
 use packet_rules::Reader;
 
 // The characters before a place are listed: so many events, the disparity there, and the reader after them.

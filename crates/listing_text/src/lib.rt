@@ -1,4 +1,6 @@
 // Text put into a piece of a listing. The answer is the index after it; where there is no room, the same index.
+#![tactic(auto)]
+
 ghost use Rattle.std.specs.Prelude.{◌≡◌, ◌+◌, ◌≤◌, length};
 ghost use Rattle.listing_rules.specs.Text.{five_digits, leading_zeros, decimal};
 ghost use Rattle.listing_text.specs.Writing.{worded_line, numbered_line, has_room, front_room, worded_room, numbered_room, index_after, output_after, Wrote};

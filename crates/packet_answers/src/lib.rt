@@ -1,4 +1,6 @@
 // The answers of a step: an event, and the state after it; what is due after a symbol that opens.
+#![tactic(auto)]
+
 ghost use Rattle.std.specs.Prelude.{◌≡◌};
 ghost use Rattle.packet_rules.specs.Step.{due_after};
 ghost use Rattle.packet_answers.specs.Answers.{moved_to, violated_to, closed_to, started_data, started_priority};

@@ -1,4 +1,6 @@
 // The state's written rule.
+#![tactic(auto)]
+
 ghost use Rattle.std.specs.Prelude.{◌≡◌, eqb};
 ghost use Rattle.crc.specs.Crc16.{crc_start};
 ghost use Rattle.packet_rules.specs.State.{data_rule, priority_rule, due_rule, phase_rule, well_formed};

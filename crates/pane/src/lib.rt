@@ -15,21 +15,21 @@ pub struct Pane<'a> {
 
 // A pane at the capture's start.
 pub fn open<'a>(capture: &'a [u8]) -> Pane<'a>
-    ensures { (result.capture ≡ capture.entry) × (result.place ≡ 0) }
+    ensures { (result.capture ≡ capture) × (result.place ≡ 0) }
 {
     Pane { capture, place: 0 }
 }
 
 // Where the pane stands.
 pub fn place<'a>(pane: Pane<'a>) -> Answer
-    ensures { says result ≡ place_says pane.entry.capture.now pane.entry.place }
+    ensures { says result ≡ place_says pane.capture.now pane.place }
 {
     place_in(pane.capture, pane.place)
 }
 
 // The character that stands there.
 pub fn here<'a>(pane: Pane<'a>) -> Answer
-    ensures { says result ≡ character_says pane.entry.capture.now pane.entry.place }
+    ensures { says result ≡ character_says pane.capture.now pane.place }
 {
     character_at(pane.capture, pane.place)
 }

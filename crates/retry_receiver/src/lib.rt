@@ -1,4 +1,6 @@
 // The receiver: its rule, a fresh one, and what it answers where nothing is delivered.
+#![tactic(auto)]
+
 ghost use Rattle.std.specs.Prelude.{◌≡◌};
 ghost use Rattle.retry_rules.specs.States.{receiver_rule};
 ghost use Rattle.retry_rules.specs.Refused.{refused_receiver, refused_arrival};

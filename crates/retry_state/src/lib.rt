@@ -1,4 +1,6 @@
 // The written rule of a sender, and what every call but reset is refused with for its state alone.
+#![tactic(auto)]
+
 ghost use Rattle.std.specs.Prelude.{◌≡◌, ◌&&◌, ◌||◌, ltb, leb, eqb};
 ghost use Rattle.refusal.specs.Order.{refusal_of};
 ghost use Rattle.retry_rules.specs.States.{link_rule, timer_rule, window_rule, counters_rule, slots_rule, sender_rule};

@@ -5,7 +5,6 @@ use Prim.Native.Nat.{ℕ}
 use lib.ListN.{get_or}
 use Rattle.character_table.specs.Entries.{result_in}
 use Rattle.character_table.proofs.Held.{table_right}
-use borrow.Author.Rules.{rules}
 use Rattle.character_reader.proofs.look_up.Goals as goal
 
 pub returns : goal.returns

@@ -1,4 +1,5 @@
 -- Each way out by the tests that led there; the packed result is the rules' own.
+use mathlib.Core.Bool.{not}
 use mathlib.Core.Path.{refl, sym, ◌∙◌, ap}
 use mathlib.Core.Bool.{Bool}
 use native.Mathlib.Omega.{arith}
@@ -13,7 +14,6 @@ use Rattle.character_rules.proofs.Packed.{unpacked_reading}
 use Rattle.character_rules.proofs.Laws.{reading_far, reading_bad}
 use Rattle.character_table.specs.Table.{table}
 use Rattle.disparity.proofs.Signed.{told_none, told_disparity}
-use borrow.Author.Rules.{rules}
 use Rattle.character_reader.proofs.read.Goals as goal
 
 pub returns-then-character-gt1023 : goal.returns-then-character-gt1023
@@ -21,7 +21,7 @@ returns-then-character-gt1023 c = sym (reading_far c.args.character c.args.dispa
 
 pub returns-then-not-is_disparity : goal.returns-then-not-is_disparity
 returns-then-not-is_disparity c = sym (reading_bad c.args.character c.args.disparity (omega arith)
-    (told_none _ c.args.disparity _ (to_z-of_z c.ranges.disparity) c.is_disparity.ensures c.if-not-is_disparity.true))
+    (told_none _ c.args.disparity _ (to_z-of_z c.ranges.disparity) c.is_disparity.ensures (ap not c.if-not-is_disparity.true)))
 
 pub look_up-requires : goal.look_up-requires
 unfolding table
@@ -32,7 +32,7 @@ returns c =
     let d = c.args.disparity in
     let n = c.args.character in
     let t = true_t (is_disparity d)
-    (told_disparity _ d _ (to_z-of_z c.ranges.disparity) c.is_disparity.ensures c.if-not-is_disparity.false) in
+    (told_disparity _ d _ (to_z-of_z c.ranges.disparity) c.is_disparity.ensures (ap not c.if-not-is_disparity.false)) in
     c.unpack_result.ensures
     ∙ ap unpacked (c.look_up.ensures
     ∙ ap (λ (p : Bool). packed (reading n (disparity_of p))) (c.is_plus.ensures ∙ ap is_plus (to_z-of_z c.ranges.disparity))

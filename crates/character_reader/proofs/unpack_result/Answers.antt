@@ -1,6 +1,5 @@
 -- Each way out by the tests that led there.
 use Rattle.character_reader.proofs.Unpacking.{unpack_clean, unpack_invalid, unpack_wrong}
-use borrow.Author.Rules.{rules}
 use Rattle.character_reader.proofs.unpack_result.Goals as goal
 
 pub returns-then-violation-eq0 : goal.returns-then-violation-eq0

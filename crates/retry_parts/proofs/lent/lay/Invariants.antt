@@ -1,17 +1,16 @@
 -- Where they fit, each turn lays one byte more: after i turns the first i bytes stand in the place, and all else is as it stood.
-use mathlib.Core.Path.{◌≡◌, refl, sym, ap, ◌∙◌}
+use mathlib.Core.Path.{◌≡◌}
 use mathlib.Core.List.{List}
-use Prim.Native.Nat.{ℕ, ◌+◌, ◌-◌, ◌<◌, ◌≤◌}
-use native.Mathlib.Omega.{arith}
-use native.Mathlib.Nat.{le_antisymm}
-use native.Mathlib.Numerals.{add-one}
-use mathlib.Core.Bool.{true, false}
-use borrow.Author.Tests.{le-leb, lt-leb}
-use lib.ListN.{length, get_or, set, length-set}
-use lib.Seq.{paste, paste-zero, paste-suc}
-use Rattle.retry_parts.specs.Fits.{fits_at}
-use Rattle.retry_rules.proofs.Laid.{laid_paste}
+use Prim.Native.Nat.{ℕ, ◌+◌, ◌-◌, ◌≤◌}
+use lib.ListN.{length}
+use lib.Seq.{paste}
 use Rattle.retry_parts.proofs.lent.lay.Given as goal
+
+pub record Laying (bytes into₀ : List ℕ) (at : ℕ) (into : List ℕ) (i to : ℕ) : Type 0 where
+  pub place : to ≡ at + i
+  pub laid_so_far : into ≡ paste into₀ at bytes i
+  pub within : i ≤ length bytes
+  pub same : length into ≡ length into₀
 
 abbrev pub invariant-loop-i : goal.invariant-loop-i
 invariant-loop-i l = Laying l.bytes l.initial.into l.at l.into l.i l.to

@@ -1,5 +1,4 @@
 -- The numbers between are what `between` promises.
-use borrow.Author.Rules.{rules}
 use Rattle.retry_rules.specs.Numbers.{among_last}
 use Rattle.retry_parts.proofs.numbers.among_last.Goals as goal
 
