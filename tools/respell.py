@@ -47,9 +47,9 @@ def declared():
             if not line.startswith(" "):
                 head = re.match(r"^((?:abbrev |unfoldable |opaque |pub )*)(data |record )?(\S+)( .*)?$", line)
                 inside = bool(head and head.group(2))
-                top = re.match(r"^(?:abbrev |unfoldable |opaque |pub )*(?:data |record )?(\S+) : (.*)$", line)
+                top = re.match(r"^(?:abbrev |unfoldable |opaque |pub )*(?:data |record )?(\S+) :(?: (.*))?$", line)
                 if top:
-                    found[top.group(1)].add(top.group(2))
+                    found[top.group(1)].add(top.group(2) or "")
             elif inside:
                 field = re.match(r"^\s+(?:pub )?([^\s({]+) : (.*)$", line)
                 if field:
@@ -57,9 +57,9 @@ def declared():
                     fields.add(field.group(1))
             else:
                 # a lemma inside a module
-                lemma = re.match(r"^ {2,4}(?:abbrev |unfoldable |opaque |pub )*([^\s({]+) : (.*)$", line)
+                lemma = re.match(r"^ {2,4}(?:abbrev |unfoldable |opaque |pub )*([^\s({]+) :(?: (.*))?$", line)
                 if lemma and lemma.group(1) not in ("let", "in"):
-                    found[lemma.group(1)].add(lemma.group(2))
+                    found[lemma.group(1)].add(lemma.group(2) or "")
     return found, fields
 
 

@@ -12,7 +12,7 @@ use Rattle.laws.specs.Lists.{all_of}
 use Rattle.laws.proofs.Bools.{and_left, and_right, agree, agree_eq}
 use Rattle.symbol.specs.Symbols.{is_twelve, is_symbol}
 use Rattle.symbol.specs.declared.Symbol.{Symbol}
-use Rattle.symbol.proofs.Every.{every-symbol}
+use Rattle.symbol.proofs.Every.{every_symbol}
 use Rattle.character_rules.specs.Disparity.{is_disparity}
 use Rattle.character_rules.specs.Blocks.{six_blocks, four_blocks, control_four_blocks, six_block, four_by_list, four_block, first_block, between, second_block, character}
 use Rattle.character_rules.specs.Reading.{symbols, first_with}
@@ -47,7 +47,7 @@ findable_both s = findable s (pos 1) && findable s (negsuc 0)
 
 all_findable : (s : Symbol) → s.byte < 256 → T (is_symbol s) → T (findable_both s)
 unfolding six_blocks four_blocks control_four_blocks six_block four_by_list four_block first_block between second_block character symbols
-all_findable = every-symbol findable_both tt tt
+all_findable = every_symbol findable_both tt tt
 
 module _ (s : Symbol) (d : ℤ) (h : s.byte < 256) (i : T (is_symbol s)) (t : T (is_disparity d)) where
   at_disparity : T (findable s d)

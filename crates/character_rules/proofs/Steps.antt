@@ -10,7 +10,7 @@ use Rattle.laws.proofs.Bools.{and_left, and_right, implied}
 use Rattle.laws.proofs.Scan.{passes}
 use Rattle.symbol.specs.Symbols.{is_twelve, is_symbol, is_writable}
 use Rattle.symbol.specs.declared.Symbol.{Symbol}
-use Rattle.symbol.proofs.Every.{every-symbol}
+use Rattle.symbol.proofs.Every.{every_symbol}
 use Rattle.character_rules.specs.Disparity.{is_plus, is_disparity}
 use Rattle.character_rules.specs.Blocks.{six_blocks, four_blocks, control_four_blocks, six_block, four_by_list, four_block, first_block, between, second_block, character, closing}
 use Rattle.character_rules.specs.Line.{counted, within_three}
@@ -85,7 +85,7 @@ goes_on_both s = not (is_writable s) || (from_all (goes_on s (pos 1)) 1 0 && fro
 
 all_go_on : (s : Symbol) → s.byte < 256 → T (is_symbol s) → T (goes_on_both s)
 unfolding six_blocks four_blocks control_four_blocks six_block four_by_list four_block first_block between second_block character closing is_twelve
-all_go_on = every-symbol goes_on_both tt tt
+all_go_on = every_symbol goes_on_both tt tt
 
 -- ---- from the test to every state
 

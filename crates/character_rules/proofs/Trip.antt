@@ -78,15 +78,15 @@ reads_other c d s t g n =
     let f = finds_group c (neg_ℤ d) s (opposite d t) g in
     reading_done c d f.0 (T_true (is_disparity d) t) ∙ ap₂ (result d) (nothing c d (first_with symbols c d) refl n) f.1
 
-reads-neither :
+reads_neither :
     (c : ℕ) (d : ℤ) → c ≤ 1023 → T (is_disparity d) → ((r : Symbol) → CodeGroup c d r → ⊥) → ((r : Symbol) → CodeGroup c (neg_ℤ d) r → ⊥)
     → reading c d ≡ invalid d
-reads-neither c d h t n m =
+reads_neither c d h t n m =
     reading_done c d h (T_true (is_disparity d) t)
     ∙ ap₂ (result d) (nothing c d (first_with symbols c d) refl n) (nothing c (neg_ℤ d) (first_with symbols c (neg_ℤ d)) refl m)
 
 pub otherwise : Otherwise reading
-otherwise = record { other = reads_other; neither = reads-neither }
+otherwise = record { other = reads_other; neither = reads_neither }
 
 -- ---- lists of symbols
 

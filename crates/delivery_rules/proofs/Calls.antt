@@ -30,8 +30,8 @@ use Rattle.retry_rules.specs.Tick.{ticked, tick_of}
 use Rattle.retry_rules.specs.Arrival.{arrival_checks, advanced, delivery, answer_to, arrival_of, arrival_output}
 use Rattle.retry_rules.proofs.StoredSlots.{stored_slot}
 use Rattle.retry_rules.proofs.Laid.{laid_first}
-use Rattle.retry_rules.proofs.Held.{held-length}
-use Rattle.retry_rules.proofs.Done.{reply_done, tick-done, damaged_arrival_done}
+use Rattle.retry_rules.proofs.Held.{held_length_lem}
+use Rattle.retry_rules.proofs.Done.{reply_done, tick_done, damaged_arrival_done}
 use Rattle.retry_rules.proofs.Seen.{Sound, sender_seen, Hears, reply_seen, Offers, offer_seen, offer_passes, Sends, send_seen}
 use Rattle.delivery_rules.specs.Ends.{segment, damaged, Reply, ack, nack, damaged_reply, Offering, Sending, Arriving}
 use Rattle.delivery_rules.specs.Demand.{no_content}
@@ -63,13 +63,13 @@ taken s buffers x =
 abbrev pub turned_down : Sender → List ℕ → Offering Sender
 turned_down s buffers = record { accepted = false; state = s; buffers = buffers }
 
-pub offer-either :
+pub offer_either :
     (s : Sender) (buffers : List ℕ) (x : Content) (P : Offering Sender → Type 0)
     → (Offers s (length buffers) x.channel (length x.bytes) → P (taken s buffers x))
     → ((Offers s (length buffers) x.channel (length x.bytes) → ⊥) → P (turned_down s buffers))
     → P (ours.offer s buffers x)
 unfolding offer_of offer_buffers
-offer-either s buffers x P f g =
+offer_either s buffers x P f g =
     let cs = offer_checks s (length buffers) x.channel (length x.bytes) in
     by_one (λ (a : Offered) (l : List ℕ). P (offering_of a l)) (eqb (refusal_of cs) 0)
     (λ t. f (offer_seen s (length buffers) x.channel (length x.bytes) (eqb-true (refusal_of cs) 0 t)))
@@ -90,17 +90,17 @@ abbrev pub stays : Sender → Sending Sender
 stays s = record { sent = false; number = 0; content = no_content; state = s }
 
 -- what goes out is what the buffer at the send point holds
-goes-out :
+goes_out :
     (s : Sender) (buffers output : List ℕ) (P : Sending Sender → Type 0) → Sends s (length buffers) (length output)
     → to_send s.counters ≡ true → P (goes s buffers)
     → P (sending_of (due_sent s) (laid output 0 (held_bytes s buffers (due_slot s.counters))))
 unfolding held_content
-goes-out s buffers output P o t p =
+goes_out s buffers output P o t p =
     let c = s.counters in
     let i = due_slot c in
     let held = held_bytes s buffers i in
     let most = (stored_slot s c.point o.sound.slots (ltb-true c.point c.stored t)).most in
-    let n = held-length s buffers i o.buffers (omega arith) most in
+    let n = held_length_lem s buffers i o.buffers (omega arith) most in
     let same : take (held_length s i) (laid output 0 held) ≡ held =
     ap (λ (k : ℕ). take k (laid output 0 held)) (sym n) ∙ laid_front output held in
     subst
@@ -114,19 +114,19 @@ goes-out s buffers output P o t p =
     }))
     (sym same) p
 
-pub send-either :
+pub send_either :
     (s : Sender) (buffers output : List ℕ) (P : Sending Sender → Type 0)
     → (refusal_of (send_checks s (length buffers) (length output)) ≡ 0 → to_send s.counters ≡ true → P (goes s buffers))
     → ((refusal_of (send_checks s (length buffers) (length output)) ≡ 0 → to_send s.counters ≡ true → ⊥) → P (stays s))
     → P (ours.send s buffers output)
 unfolding send_of send_output
-send-either s buffers output P f g =
+send_either s buffers output P f g =
     let cs = send_checks s (length buffers) (length output) in
     by_one (λ (a : Sent) (l : List ℕ). P (sending_of a l)) (eqb (refusal_of cs) 0)
     (λ t.
     let q = eqb-true (refusal_of cs) 0 t in
     by_one (λ (a : Sent) (l : List ℕ). P (sending_of a l)) (to_send s.counters)
-    (λ u. goes-out s buffers output P (send_seen s (length buffers) (length output) q) u (f q u))
+    (λ u. goes_out s buffers output P (send_seen s (length buffers) (length output) q) u (f q u))
     (λ u. g (λ _ v. absurd (true_is_not_false u v))))
     (λ t. g (λ q _. eqb-false (refusal_of cs) 0 t q))
 
@@ -143,7 +143,7 @@ repeats r k = record { answered = true; reply = ack k; delivered = false; conten
 abbrev pub denies : Receiver → Arriving Receiver
 denies r = record { answered = true; reply = nack r.expected; delivered = false; content = no_content; state = r }
 
-pub arrive-either :
+pub arrive_either :
     (r : Receiver) (k : ℕ) (x : Content) (room : Bool) (output : List ℕ) (P : Arriving Receiver → Type 0)
     → ((refusal_of (arrival_checks r k x.channel (length x.bytes) room (length output)) ≡ 0 → ⊥) → P (drops r))
     → (k ≡ r.expected → room ≡ true → P (takes r k x))
@@ -153,7 +153,7 @@ pub arrive-either :
     → P (denies r))
     → P (ours.arrive r (segment k x) room output)
 unfolding arriving arrival_of arrival_output answer_to
-arrive-either r k x room output P f g h i =
+arrive_either r k x room output P f g h i =
     let n = length x.bytes in
     let cs = arrival_checks r k x.channel n room (length output) in
     let Q : Arrived → List ℕ → Type 0 = λ a l. P (arriving_of a l) in
@@ -205,12 +205,12 @@ damaged_heard s =
     (λ _. refl)
 
 pub ticks : (s : Sender) → Sound s → (tick_of s).sender ≡ with_counters s (ticked s.counters)
-ticks s h = ap (λ (a : Ticked). a.sender) (tick-done s h)
+ticks s h = ap (λ (a : Ticked). a.sender) (tick_done s h)
 
 -- a tick says whether it took the link down
 pub tick_fell : (s : Sender) → Sound s → (tick_of s).fell ≡ is_down (tick_of s).sender.counters
 tick_fell s h =
-    ap (λ (a : Ticked). a.fell) (tick-done s h) ∙ sym (ap (λ (a : Ticked). is_down a.sender.counters) (tick-done s h))
+    ap (λ (a : Ticked). a.fell) (tick_done s h) ∙ sym (ap (λ (a : Ticked). is_down a.sender.counters) (tick_done s h))
 
 module _ (s : Sender) (down : s.counters.link ≡ 2) where
   refused_tick_lem : tick_of s ≡ refused_tick s (refusal_of (sender_checks s))

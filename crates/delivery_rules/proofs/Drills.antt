@@ -52,14 +52,14 @@ module _ (E : Ends) where
   joined_one l true a q = rw q (omega arith)
   joined_one l false a q = rw q (omega arith)
 
-  arrived-one :
+  arrived_one :
       (w : World E) (l : List Item) (output : List ℕ) → w.forward ≡ l → w.backward ≡ [] → length l ≤ 1
       → ((arrives E w true output l).forward ≡ []) × (length (arrives E w true output l).backward ≤ 1)
-  arrived-one w [] output p q h = (p, rw q (omega arith))
-  arrived-one w (i ∷ []) output p q h =
+  arrived_one w [] output p q h = (p, rw q (omega arith))
+  arrived_one w (i ∷ []) output p q h =
       let a = E.arrive w.receiver i true output in
       (refl, joined_one w.backward a.answered a.reply q)
-  arrived-one w (i ∷ i' ∷ l) output p q h = absurd (omega arith)
+  arrived_one w (i ∷ i' ∷ l) output p q h = absurd (omega arith)
 
   -- an output that is long enough for what arrives next
   output_for : List Item → List ℕ
@@ -95,7 +95,7 @@ module _ (E : Ends) where
     round_empty =
         let a = E.send w.sender w.buffers out in
         let one = joined_one w.forward a.sent (segment a.number a.content) e.0 in
-        let b = arrived-one after_send after_send.forward into refl e.1 one in
+        let b = arrived_one after_send after_send.forward into refl e.1 one in
         heard_one after_arrival after_arrival.backward b.0 refl b.1
 
     round_accepted : after_reply.seen.accepted ≡ w.seen.accepted

@@ -72,7 +72,7 @@ pub record Inv (S : ℕ) (w : World ours) : Type 0 where
   -- what is delivered is the first so many accepted; each accepted segment is good, and a stored one stands in its buffer
   pub prefix : w.seen.delivered ≡ take (length w.seen.delivered) w.seen.accepted
   pub good : (j : ℕ) → j < length w.seen.accepted → Good S (get_or w.seen.accepted j no_content)
-  pub holds-it :
+  pub holds_it :
       (i : ℕ) → i < w.sender.counters.stored
       → held_content w.sender w.buffers (slot_of w.sender.counters i) ≡ get_or w.seen.accepted (w.seen.released + i) no_content
   -- what stands on each line is near to what is delivered, and to what is released
@@ -104,10 +104,10 @@ module _ (S : ℕ) (w : World ours) (v : Inv S w) where
       omega arith
 
   -- other lines
-  pub lined-inv :
+  pub lined_inv :
       (f : List Item) (b : List Reply) → Line (IsItem w.seen.accepted) IsDamaged w.seen.gone (length w.seen.delivered) f
       → Line IsAck IsIdle (length w.seen.delivered) w.seen.released b → Inv S (lined ours w f b)
-  lined-inv f b p q =
+  lined_inv f b p q =
       record {
         rule = v.rule;
         eight = v.eight;
@@ -119,7 +119,7 @@ module _ (S : ℕ) (w : World ours) (v : Inv S w) where
         follows = v.follows;
         prefix = v.prefix;
         good = v.good;
-        holds-it = v.holds-it;
+        holds_it = v.holds_it;
         items = p;
         replies = q;
       }
@@ -144,13 +144,13 @@ module _ (S : ℕ) (w : World ours) (v : Inv S w) where
         slots = w.sender.slots;
       }
 
-  pub retimed-inv :
+  pub retimed_inv :
       (point timer expiries link ticks counted : ℕ) (rest : List Reply) → timer + ticks ≡ w.seen.columns → expiries ≡ counted
       → Line IsAck IsIdle (length w.seen.delivered) w.seen.released rest
       → sender_rule (retimed point timer expiries link) ≡ true
       → Inv S (told ours w (retimed point timer expiries link) rest (seen_with w.seen w.seen.gone w.seen.released ticks counted))
   unfolding held_content held_bytes
-  retimed-inv point timer expiries link ticks counted rest q p l k =
+  retimed_inv point timer expiries link ticks counted rest q p l k =
       let c = v.counts in
       let f = v.follows in
       record {
@@ -164,7 +164,7 @@ module _ (S : ℕ) (w : World ours) (v : Inv S w) where
         follows = omega arith;
         prefix = v.prefix;
         good = v.good;
-        holds-it = v.holds-it;
+        holds_it = v.holds_it;
         items = v.items;
         replies = l;
       }

@@ -44,11 +44,11 @@ tick_ordered g o =
     (λ _. o)
 
 -- one more has gone out, or none
-gone-ordered :
+gone_ordered :
     (g : Seen) (b : Bool) (k : ℕ) → Ordered g
     → (g.gone ≤ cond b (gone_with g k) g.gone) × (cond b (gone_with g k) g.gone ≤ length g.accepted)
 unfolding gone_with
-gone-ordered g b k o =
+gone_ordered g b k o =
     let P : ℕ → Type 0 = λ n. (g.gone ≤ n) × (n ≤ length g.accepted) in
     by_cases P b
     (λ _. by_cases P (is_next g k)
@@ -63,10 +63,10 @@ longer l true a = omega (arith, length-append l (a ∷ []))
 longer l false a = omega arith
 
 module _ (E : Ends) where
-  arrives-ordered :
+  arrives_ordered :
       (w : World E) (room : Bool) (output : List ℕ) (l : List Item) → Ordered w.seen → Ordered (arrives E w room output l).seen
-  arrives-ordered w room output [] o = o
-  arrives-ordered w room output (i ∷ l) o = record { released_le = o.released_le; gone_le = o.gone_le }
+  arrives_ordered w room output [] o = o
+  arrives_ordered w room output (i ∷ l) o = record { released_le = o.released_le; gone_le = o.gone_le }
 
   hears_ordered : (w : World E) (l : List Reply) → Ordered w.seen → Ordered (hears E w l).seen
   hears_ordered w [] o = o
@@ -79,9 +79,9 @@ module _ (E : Ends) where
       record { released_le = o.released_le; gone_le = omega (arith, longer w.seen.accepted a.accepted x) }
   step_ordered (send output) w o =
       let a = E.send w.sender w.buffers output in
-      let z = gone-ordered w.seen a.sent a.number o in
+      let z = gone_ordered w.seen a.sent a.number o in
       record { released_le = omega (arith, z.0, o.released_le); gone_le = z.1 }
-  step_ordered (arrive room output) w o = arrives-ordered w room output w.forward o
+  step_ordered (arrive room output) w o = arrives_ordered w room output w.forward o
   step_ordered (lose n) w o = o
   step_ordered (damage n) w o = o
   step_ordered hear w o = hears_ordered w w.backward o

@@ -15,9 +15,9 @@ use Rattle.retry_rules.specs.Numbers.{among_last, between}
 use Rattle.retry_rules.specs.Lent.{Content, held_length, held_content}
 use Rattle.retry_rules.specs.Send.{due_slot, send_point}
 use Rattle.retry_rules.specs.Reply.{restarted, one_released, heard, with_counters}
-use Rattle.retry_rules.proofs.Steps.{heard-cases}
+use Rattle.retry_rules.proofs.Steps.{heard_cases}
 use Rattle.retry_rules.proofs.StoredSlots.{stored_slot}
-use Rattle.retry_rules.proofs.Seen.{send_passes, arrival-passes}
+use Rattle.retry_rules.proofs.Seen.{send_passes, arrival_passes}
 use Rattle.delivery_rules.specs.Ends.{Item, segment, Reply, ack, Sending, Arriving}
 use Rattle.delivery_rules.specs.Outside.{Seen, seen_with, seen_reply}
 use Rattle.delivery_rules.specs.Model.{send, arrive, tick, World, sent, arrived, told, step}
@@ -26,10 +26,10 @@ use Rattle.delivery_rules.specs.Ours.{hearing, arriving, ours}
 use Rattle.delivery_rules.proofs.Round.{near_is, among, same_number}
 use Rattle.delivery_rules.proofs.Resending.{Resending}
 use Rattle.delivery_rules.proofs.Sequence.{Sequence, then_one, in_order}
-use Rattle.retry_rules.proofs.Held.{held-length}
+use Rattle.retry_rules.proofs.Held.{held_length_lem}
 use Rattle.delivery_rules.proofs.Seeing.{own_ack}
-use Rattle.delivery_rules.proofs.Ticks.{tick-either}
-use Rattle.delivery_rules.proofs.Calls.{goes, send-either, arrive-either, ack_heard}
+use Rattle.delivery_rules.proofs.Ticks.{tick_either}
+use Rattle.delivery_rules.proofs.Calls.{goes, send_either, arrive_either, ack_heard}
 use Rattle.delivery_rules.proofs.Invariant.{IsItem, IsAck, Inv, numbers, slots_rule_lem, up}
 use Rattle.delivery_rules.proofs.SenderSteps.{due_is}
 use Rattle.delivery_rules.proofs.Safety.{step_inv}
@@ -64,13 +64,13 @@ module _ (S : ℕ) (w : World ours) where
       let long' : held_length s (due_slot c) ≤ length output =
       omega (
         arith,
-        held-length s w.buffers (due_slot c) lent slot_lt most,
+        held_length_lem s w.buffers (due_slot c) lent slot_lt most,
         ap (λ (x : Content). length x.bytes) due,
         ap (λ (i : ℕ). length (get_or w.seen.accepted i no_content).bytes) q,
         long,
       ) in
       let passes = send_passes s (length w.buffers) (length output) (record { sound = sound; buffers = lent; long = λ _. long' }) in
-      send-either s w.buffers output (λ (a : Sending Sender). Inv S (sent ours w a) → Ours S (suc j) (sent ours w a))
+      send_either s w.buffers output (λ (a : Sending Sender). Inv S (sent ours w a) → Ours S (suc j) (sent ours w a))
       (λ _ t inv.
       record {
         inv = inv;
@@ -90,13 +90,13 @@ module _ (S : ℕ) (w : World ours) where
       (step_inv S (send output) w v)
 
   -- an arrival with room and a long enough output: it is delivered, or was before; either way it is acknowledged
-  pub arrives-next :
+  pub arrives_next :
       (j k : ℕ) (x : Content) (rest : List Item) (output : List ℕ) (r : Ours S j w)
       → IsItem w.seen.accepted (segment k x) r.b → Sequence (IsItem w.seen.accepted) (suc r.b) j rest
       → length x.bytes ≤ length output → Inv S (arrived ours w rest (ours.arrive w.receiver (segment k x) true output))
       → Ours S j (arrived ours w rest (ours.arrive w.receiver (segment k x) true output))
   unfolding arriving among_last
-  arrives-next j k x rest output r is l long =
+  arrives_next j k x rest output r is l long =
       let v = r.inv in
       let e : ℕ = length w.seen.delivered in
       let n = (numbers w.sender v.rule).numbers in
@@ -111,12 +111,12 @@ module _ (S : ℕ) (w : World ours) where
       let lt : k < 16 = omega arith in
       let most : length x.bytes ≤ w.receiver.size = omega (arith, good.most, v.receiver_size) in
       let passes =
-      arrival-passes w.receiver k x.channel (length x.bytes) true (length output)
+      arrival_passes w.receiver k x.channel (length x.bytes) true (length output)
       (record { rule = v.receives; number_lt = lt; channel_lt = good.channel_lt; most = most; some = good.some; long = λ _. long }) in
       let at : r.b ≡ e → k ≡ w.receiver.expected = λ p. k-is ∙ ap (λ (i : ℕ). i % 16) p ∙ sym f.expected in
       let close : e ≤ r.b + 8 = omega arith in
       let low : r.b < e + 8 = omega arith in
-      arrive-either w.receiver k x true output (λ (a : Arriving Receiver). Inv S (arrived ours w rest a) → Ours S j (arrived ours w rest a))
+      arrive_either w.receiver k x true output (λ (a : Arriving Receiver). Inv S (arrived ours w rest a) → Ours S j (arrived ours w rest a))
       (λ no. absurd (no passes))
       (λ eq _ inv.
       let b-is = near_is r.b e close low (sym k-is ∙ eq ∙ f.expected) in
@@ -153,11 +153,11 @@ module _ (S : ℕ) (w : World ours) where
       ne-lt a b h q = omega arith
 
   -- the reply that is heard is the ACK of the oldest
-  pub hears-next :
+  pub hears_next :
       (j k : ℕ) (rest : List Reply) (r : Ours S j w) → k ≡ w.seen.released % 16 → Sequence IsAck (suc w.seen.released) r.b rest
       → Inv S (told ours w (hearing w.sender (ack k)) rest (seen_reply w.seen (ack k)))
       → Ours S j (told ours w (hearing w.sender (ack k)) rest (seen_reply w.seen (ack k)))
-  hears-next j k rest r q l =
+  hears_next j k rest r q l =
       let s = w.sender in
       let c = s.counters in
       let g = w.seen in
@@ -172,7 +172,7 @@ module _ (S : ℕ) (w : World ours) where
       let out : 0 < c.outstanding = omega arith in
       let mine : k ≡ c.oldest = q ∙ sym u.oldest in
       let is : heard c false k ≡ restarted (one_released c) =
-      heard-cases (λ d. d ≡ restarted (one_released c)) c false k (λ none. absurd (omega arith)) (λ _ z. absurd (false_is_not_true z))
+      heard_cases (λ d. d ≡ restarted (one_released c)) c false k (λ none. absurd (omega arith)) (λ _ z. absurd (false_is_not_true z))
       (λ _ z. absurd (false_is_not_true z)) (λ _ _ _. refl) (λ _ _ ne _. absurd (ne mine)) (λ _ _ ne _. absurd (ne mine)) in
       let sender : hearing s (ack k) ≡ with_counters s (restarted (one_released c)) =
       ack_heard s k (record { sound = up S w v few; number_lt = k_lt }) ∙ ap (with_counters s) is in
@@ -198,7 +198,7 @@ module _ (S : ℕ) (w : World ours) where
       let v = r.inv in
       let few = r.few in
       let c = w.sender.counters in
-      tick-either S w v (omega arith)
+      tick_either S w v (omega arith)
       (λ s g. g.expiries ≡ w.seen.expiries → Inv S (told ours w s w.backward g) → Ours S j (told ours w s w.backward g))
       (λ _ _ _. r)
       (λ _ _ _ inv.
@@ -214,10 +214,10 @@ module _ (S : ℕ) (w : World ours) where
       (λ _ _ _ q. absurd (omega arith)) (λ _ _ _ q. absurd (omega arith)) quiet (step_inv S tick w v)
 
   -- after an expiry the oldest is the next to go
-  pub at-expiry :
+  pub at_expiry :
       Inv S w → w.seen.expiries < 2 → w.seen.released < w.seen.gone → w.seen.ticks + 1 ≡ w.seen.columns
       → point_of (step ours tick w) ≡ w.seen.released
   unfolding step
-  at-expiry v few some last =
-      tick-either S w v (omega arith) (λ s g. g.released + s.counters.point ≡ w.seen.released) (λ none. absurd (omega arith))
+  at_expiry v few some last =
+      tick_either S w v (omega arith) (λ s g. g.released + s.counters.point ≡ w.seen.released) (λ none. absurd (omega arith))
       (λ _ no. absurd (no last)) (λ _ _ _. omega arith) (λ _ _ two. absurd (omega arith))

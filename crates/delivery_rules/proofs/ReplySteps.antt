@@ -16,7 +16,7 @@ use Rattle.retry_rules.specs.Lent.{held_bytes, held_content}
 use Rattle.retry_rules.specs.Reply.{to_oldest, restarted, one_released, heard, with_counters}
 use Rattle.retry_rules.specs.Tick.{tick_of}
 use Rattle.retry_rules.proofs.Seen.{Hears}
-use Rattle.retry_rules.proofs.Steps.{heard-cases}
+use Rattle.retry_rules.proofs.Steps.{heard_cases}
 use Rattle.retry_rules.proofs.Kept.{reply_kept, tick_kept}
 use Rattle.delivery_rules.specs.Ends.{Reply, ack, nack, damaged_reply}
 use Rattle.delivery_rules.specs.Outside.{Seen, seen_with, seen_reply, seen_tick}
@@ -26,8 +26,8 @@ use Rattle.delivery_rules.proofs.Round.{near_is, next_slot}
 use Rattle.delivery_rules.proofs.Lines.{Line, lower, tail, first}
 use Rattle.delivery_rules.proofs.Seeing.{stands, is_down_lem, unheard, unticked, other_ack, other_nack, own_ack, own_nack}
 use Rattle.delivery_rules.proofs.Calls.{ack_heard, nack_heard, damaged_heard, down_reply, down_tick}
-use Rattle.delivery_rules.proofs.Ticks.{tick-either}
-use Rattle.delivery_rules.proofs.Invariant.{IsAck, IsIdle, Inv, numbers, up, down, retimed, retimed-inv}
+use Rattle.delivery_rules.proofs.Ticks.{tick_either}
+use Rattle.delivery_rules.proofs.Invariant.{IsAck, IsIdle, Inv, numbers, up, down, retimed, retimed_inv}
 
 module _ (S : ℕ) (w : World ours) (v : Inv S w) where
   abbrev Replies : List Reply → Type 0
@@ -37,19 +37,19 @@ module _ (S : ℕ) (w : World ours) (v : Inv S w) where
   same_inv : (rest : List Reply) → Replies rest → Inv S (told ours w w.sender rest w.seen)
   same_inv rest l =
       let c = w.sender.counters in
-      retimed-inv S w v c.point c.timer c.expiries c.link w.seen.ticks w.seen.expiries rest v.counts.timer
+      retimed_inv S w v c.point c.timer c.expiries c.link w.seen.ticks w.seen.expiries rest v.counts.timer
       v.counts.expiries l v.rule
 
-  moved-inv :
+  moved_inv :
       (rest : List Reply) → Replies rest → sender_rule (with_counters w.sender (to_oldest w.sender.counters)) ≡ true
       → Inv S (told ours w (with_counters w.sender (to_oldest w.sender.counters)) rest w.seen)
-  moved-inv rest l rule =
+  moved_inv rest l rule =
       let c = w.sender.counters in
-      retimed-inv S w v 0 c.timer c.expiries c.link w.seen.ticks w.seen.expiries rest v.counts.timer
+      retimed_inv S w v 0 c.timer c.expiries c.link w.seen.ticks w.seen.expiries rest v.counts.timer
       v.counts.expiries l rule
 
   -- the oldest is released
-  released-inv :
+  released_inv :
       (rest : List Reply) → 0 < w.sender.counters.outstanding → w.seen.released < length w.seen.delivered
       → Line IsAck IsIdle (length w.seen.delivered) (suc w.seen.released) rest
       → sender_rule (with_counters w.sender (restarted (one_released w.sender.counters))) ≡ true
@@ -57,7 +57,7 @@ module _ (S : ℕ) (w : World ours) (v : Inv S w) where
       (told ours w (with_counters w.sender (restarted (one_released w.sender.counters))) rest
       (seen_with w.seen w.seen.gone (w.seen.released + 1) 0 0))
   unfolding held_content held_bytes
-  released-inv rest some lt l rule =
+  released_inv rest some lt l rule =
       let c = w.sender.counters in
       let g = w.seen in
       let n = (numbers w.sender v.rule).numbers in
@@ -74,10 +74,10 @@ module _ (S : ℕ) (w : World ours) (v : Inv S w) where
         follows = omega arith;
         prefix = v.prefix;
         good = v.good;
-        holds-it = λ i h.
+        holds_it = λ i h.
             let q : g.released + 1 + i ≡ g.released + (1 + i) = omega arith in
             let slot : slot_of (one_released c) i ≡ slot_of c (1 + i) = next_slot c.oldest i in
-            rw (q, slot) (v.holds-it (1 + i) (omega arith));
+            rw (q, slot) (v.holds_it (1 + i) (omega arith));
         items = lower (omega arith) (omega arith) v.items;
         replies = lower (omega arith) (omega arith) l;
       }
@@ -98,15 +98,15 @@ module _ (S : ℕ) (w : World ours) (v : Inv S w) where
         let P : Counters → Type 0 = λ d. sender_rule (with_counters s d) ≡ true → Inv S (told ours w (with_counters s d) rest (seen_reply g (ack k))) in
         let other : (k ≡ c.oldest → ⊥) → seen_reply g (ack k) ≡ g = λ ne. other_ack g k (λ q. ne (q ∙ sym u.oldest)) in
         let all : P (heard c false k) =
-        heard-cases P c false k (λ none _. rw (unheard g (ack k) (stands g (omega arith))) (same_inv rest (tail l)))
+        heard_cases P c false k (λ none _. rw (unheard g (ack k) (stands g (omega arith))) (same_inv rest (tail l)))
         (λ _ q. absurd (false_is_not_true q)) (λ _ q. absurd (false_is_not_true q))
         (λ some _ eq rule.
         let mine : k ≡ g.released % 16 = eq ∙ u.oldest in
         let low : a.j < g.released + 8 = omega arith in
         let j-is = near_is a.j g.released a.near low (sym is ∙ mine) in
         rw (own_ack g h (omega arith) k mine)
-        (released-inv rest some (omega arith) (lower (omega arith) (omega arith) a.rest) rule))
-        (λ _ _ ne _ _. rw (other ne) (same_inv rest (tail l))) (λ _ _ ne _ rule. rw (other ne) (moved-inv rest (tail l) rule)) in
+        (released_inv rest some (omega arith) (lower (omega arith) (omega arith) a.rest) rule))
+        (λ _ _ ne _ _. rw (other ne) (same_inv rest (tail l))) (λ _ _ ne _ rule. rw (other ne) (moved_inv rest (tail l) rule)) in
         rw (ack_heard s k hears-it) (all (subst (λ (d : Sender). sender_rule d ≡ true) (ack_heard s k hears-it) (reply_kept s false k v.rule)))
 
     nack_inv : (k : ℕ) → Replies (nack k ∷ rest) → k < 16 → Inv S (told ours w (hearing w.sender (nack k)) rest (seen_reply w.seen (nack k)))
@@ -119,11 +119,11 @@ module _ (S : ℕ) (w : World ours) (v : Inv S w) where
         let hears-it : Hears s k = record { sound = up S w v h; number_lt = lt } in
         let P : Counters → Type 0 = λ d. sender_rule (with_counters s d) ≡ true → Inv S (told ours w (with_counters s d) rest (seen_reply g (nack k))) in
         let all : P (heard c true k) =
-        heard-cases P c true k (λ none _. rw (unheard g (nack k) (stands g (omega arith))) (same_inv rest (tail l)))
+        heard_cases P c true k (λ none _. rw (unheard g (nack k) (stands g (omega arith))) (same_inv rest (tail l)))
         (λ some _ eq rule.
         rw (own_nack g h (omega arith) k (eq ∙ u.oldest))
-        (retimed-inv S w v 0 c.columns 0 c.link 0 0 rest (omega arith) refl (tail l) rule))
-        (λ _ _ ne rule. rw (other_nack g k (λ q. ne (q ∙ sym u.oldest))) (moved-inv rest (tail l) rule))
+        (retimed_inv S w v 0 c.columns 0 c.link 0 0 rest (omega arith) refl (tail l) rule))
+        (λ _ _ ne rule. rw (other_nack g k (λ q. ne (q ∙ sym u.oldest))) (moved_inv rest (tail l) rule))
         (λ _ q. absurd (false_is_not_true (sym q))) (λ _ q. absurd (false_is_not_true (sym q))) (λ _ q. absurd (false_is_not_true (sym q))) in
         rw (nack_heard s k hears-it) (all (subst (λ (d : Sender). sender_rule d ≡ true) (nack_heard s k hears-it) (reply_kept s true k v.rule)))
 
@@ -157,9 +157,9 @@ module _ (S : ℕ) (w : World ours) (v : Inv S w) where
       → Inv S
       (told ours w (retimed S w v point c.columns (c.expiries + 1) link) w.backward
       (seen_with g g.gone g.released 0 (g.expiries + 1))) = λ point link rule.
-      retimed-inv S w v point c.columns (c.expiries + 1) link 0 (g.expiries + 1) w.backward (omega arith) (omega arith) v.replies rule in
-      tick-either S w v h P (λ _ _. v)
-      (λ _ _ rule. retimed-inv S w v c.point (c.timer - 1) c.expiries c.link (g.ticks + 1) g.expiries w.backward (omega arith)
+      retimed_inv S w v point c.columns (c.expiries + 1) link 0 (g.expiries + 1) w.backward (omega arith) (omega arith) v.replies rule in
+      tick_either S w v h P (λ _ _. v)
+      (λ _ _ rule. retimed_inv S w v c.point (c.timer - 1) c.expiries c.link (g.ticks + 1) g.expiries w.backward (omega arith)
       u.expiries v.replies rule)
       (λ _ _ _ rule. expires 0 c.link rule) (λ _ _ _ rule. expires c.point 2 rule) (tick_kept w.sender v.rule)
 

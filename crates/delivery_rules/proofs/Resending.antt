@@ -46,7 +46,7 @@ module _ (E : Ends) (Inv : World E → Type 0) (point : World E → ℕ) where
         → IsItem w.seen.accepted (segment k x) r.b → Sequence (IsItem w.seen.accepted) (suc r.b) j rest
         → length x.bytes ≤ length output → Inv (arrived E w rest (E.arrive w.receiver (segment k x) true output))
         → Resending j (arrived E w rest (E.arrive w.receiver (segment k x) true output))
-    pub hears-ack :
+    pub hears_ack :
         (w : World E) (j k : ℕ) (rest : List Reply) (r : Resending j w) → k ≡ w.seen.released % 16
         → Sequence IsAck (suc w.seen.released) r.b rest
         → Inv (told E w (E.hear w.sender (ack k)) rest (seen_reply w.seen (ack k)))
@@ -55,7 +55,7 @@ module _ (E : Ends) (Inv : World E → Type 0) (point : World E → ℕ) where
     -- with nothing outstanding, and after an expiry, the oldest is the next to go
     pub at_rest : (w : World E) → Inv w → w.seen.gone ≤ w.seen.released → point w ≡ w.seen.released
     pub time_left : (w : World E) → Inv w → w.seen.ticks < w.seen.columns
-    pub at-expiry :
+    pub at_expiry :
         (w : World E) → Inv w → w.seen.expiries < 2 → w.seen.released < w.seen.gone → w.seen.ticks + 1 ≡ w.seen.columns
         → point (step E tick w) ≡ w.seen.released
     -- with nothing stored the next eight good offers are accepted
@@ -65,21 +65,21 @@ module _ (E : Ends) (Inv : World E → Type 0) (point : World E → ℕ) where
 
   module _ (S : ℕ) (R : Resends S) where
     -- the sending
-    arrival-next :
+    arrival_next :
         (w : World E) (j : ℕ) (l : List Item) (output : List ℕ) (r : Resending j w) → Sequence (IsItem w.seen.accepted) r.b j l
         → Fits E l output → Inv (arrives E w true output l) → Resending j (arrives E w true output l)
-    arrival-next w j [] output r q long inv = r
-    arrival-next w j (segment k x ∷ rest) output r q long inv =
+    arrival_next w j [] output r q long inv = r
+    arrival_next w j (segment k x ∷ rest) output r q long inv =
         R.arrives_at w j k x rest output r (first_of q).0 (first_of q).1 long inv
-    arrival-next w j (damaged ∷ rest) output r q long inv = absurd (first_of q).0
+    arrival_next w j (damaged ∷ rest) output r q long inv = absurd (first_of q).0
 
-    hearing-next :
+    hearing_next :
         (w : World E) (j : ℕ) (l : List Reply) (r : Resending j w) → Sequence IsAck w.seen.released r.b l → Inv (hears E w l)
         → Resending j (hears E w l)
-    hearing-next w j [] r q inv = r
-    hearing-next w j (ack k ∷ rest) r q inv = R.hears-ack w j k rest r (first_of q).0 (first_of q).1 inv
-    hearing-next w j (nack k ∷ rest) r q inv = absurd (first_of q).0
-    hearing-next w j (damaged_reply ∷ rest) r q inv = absurd (first_of q).0
+    hearing_next w j [] r q inv = r
+    hearing_next w j (ack k ∷ rest) r q inv = R.hears_ack w j k rest r (first_of q).0 (first_of q).1 inv
+    hearing_next w j (nack k ∷ rest) r q inv = absurd (first_of q).0
+    hearing_next w j (damaged_reply ∷ rest) r q inv = absurd (first_of q).0
 
     -- at its end all that was accepted has been sent, has arrived and is released
     record Finished (w : World E) : Type 0 where
@@ -101,11 +101,11 @@ module _ (E : Ends) (Inv : World E → Type 0) (point : World E → ℕ) where
         let lt = sends_le E es (suc j) (step E (send output) w) c.1 in
         sent_each es (suc j) (step E (send output) w) c.1 (R.sends w j output r lt c.0)
     sent_each (arrive room output ∷ es) j w c r =
-        let next = arrival-next w j w.forward output r r.items c.1 (R.keeps (arrive true output) w r.inv) in
+        let next = arrival_next w j w.forward output r r.items c.1 (R.keeps (arrive true output) w r.inv) in
         sent_each es j (step E (arrive room output) w) c.2
         (subst (λ (b : Bool). Resending j (arrives E w b output w.forward)) (sym c.0) next)
     sent_each (hear ∷ es) j w c r =
-        sent_each es j (step E hear w) c (hearing-next w j w.backward r r.replies (R.keeps hear w r.inv))
+        sent_each es j (step E hear w) c (hearing_next w j w.backward r r.replies (R.keeps hear w r.inv))
     sent_each (tick ∷ es) j w c r = sent_each es j (step E tick w) c.1 (R.ticks_on w j r c.0)
     sent_each (offer x ∷ es) j w c r = absurd c
     sent_each (lose n ∷ es) j w c r = absurd c
@@ -144,7 +144,7 @@ module _ (E : Ends) (Inv : World E → Type 0) (point : World E → ℕ) where
         record {
           inv = R.keeps tick w v;
           few = omega (arith, ap (λ (g : Seen). g.expiries) is);
-          oldest = R.at-expiry w v x o last ∙ sym (ap (λ (g : Seen). g.released) is);
+          oldest = R.at_expiry w v x o last ∙ sym (ap (λ (g : Seen). g.released) is);
           empty = e;
         }
     expires (suc (suc n)) w v e x o t =
@@ -184,5 +184,5 @@ module _ (E : Ends) (Inv : World E → Type 0) (point : World E → ℕ) where
               ∙ (expired E emptied).accepted
               ∙ calm.accepted;
           none_stored = omega (arith, f.all-released);
-          eight-free = λ xs eight good. R.accepts end f.inv f.few f.all-released xs eight good;
+          eight_free = λ xs eight good. R.accepts end f.inv f.few f.all-released xs eight good;
         }

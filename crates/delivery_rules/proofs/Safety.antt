@@ -12,7 +12,7 @@ use Rattle.laws.proofs.Cases.{by_test, first_true, second_true}
 use Rattle.retry_rules.specs.Fresh.{fresh_sender, fresh_receiver, fresh_sender_of, fresh_receiver_of}
 use Rattle.retry_rules.specs.declared.Sender.{Sender}
 use Rattle.retry_rules.specs.declared.Receiver.{Receiver}
-use Rattle.retry_rules.proofs.Kept.{fresh-sender-kept, fresh-receiver-kept}
+use Rattle.retry_rules.proofs.Kept.{fresh_sender_kept, fresh_receiver_kept}
 use Rattle.retry_rules.proofs.Refusals.{fresh_sender_number, fresh_receiver_number}
 use Rattle.retry_rules.proofs.Seen.{Begins, fresh_passes, size_passes}
 use Rattle.retry_rules.specs.States.{is_up as saysUp, is_down, sender_rule, receiver_rule, Eight}
@@ -25,23 +25,23 @@ use Rattle.delivery_rules.specs.Ours.{ours}
 use Rattle.delivery_rules.specs.Honest.{Honest}
 use Rattle.delivery_rules.proofs.Lines.{empty, lost, damaged_at}
 use Rattle.delivery_rules.proofs.Calls.{tick_fell, down_fell}
-use Rattle.delivery_rules.proofs.Invariant.{Inv, numbers, up, down, lined-inv}
+use Rattle.delivery_rules.proofs.Invariant.{Inv, numbers, up, down, lined_inv}
 use Rattle.delivery_rules.proofs.SenderSteps.{offer_inv, send_inv}
 use Rattle.delivery_rules.proofs.ReplySteps.{hears_inv, tick_inv}
-use Rattle.delivery_rules.proofs.ArrivalSteps.{arrives-inv}
+use Rattle.delivery_rules.proofs.ArrivalSteps.{arrives_inv}
 
 module _ (S : ℕ) where
   pub step_inv : (e : Event) (w : World ours) → Inv S w → Inv S (step ours e w)
   unfolding step
   step_inv (offer x) w v = offer_inv S w v x
   step_inv (send output) w v = send_inv S w v output
-  step_inv (arrive room output) w v = arrives-inv S w v room output w.forward v.items
-  step_inv (lose n) w v = lined-inv S w v (without w.forward n) w.backward (lost n v.items) v.replies
-  step_inv (damage n) w v = lined-inv S w v (set w.forward n damaged) w.backward (damaged_at n damaged tt v.items) v.replies
+  step_inv (arrive room output) w v = arrives_inv S w v room output w.forward v.items
+  step_inv (lose n) w v = lined_inv S w v (without w.forward n) w.backward (lost n v.items) v.replies
+  step_inv (damage n) w v = lined_inv S w v (set w.forward n damaged) w.backward (damaged_at n damaged tt v.items) v.replies
   step_inv hear w v = hears_inv S w v w.backward v.replies
-  step_inv (lose-reply n) w v = lined-inv S w v w.forward (without w.backward n) v.items (lost n v.replies)
+  step_inv (lose-reply n) w v = lined_inv S w v w.forward (without w.backward n) v.items (lost n v.replies)
   step_inv (damage-reply n) w v =
-      lined-inv S w v w.forward (set w.backward n damaged_reply) v.items (damaged_at n damaged_reply tt v.replies)
+      lined_inv S w v w.forward (set w.backward n damaged_reply) v.items (damaged_at n damaged_reply tt v.replies)
   step_inv tick w v = tick_inv S w v
 
   pub run_inv : (es : List Event) (w : World ours) → Inv S w → Inv S (run ours es w)
@@ -67,8 +67,8 @@ module _ (T S : ℕ) (lent : List ℕ) (a : Allowed T S lent) where
 
   start_inv : Inv S (start ours T S lent)
   start_inv =
-      let s = fresh-sender-kept T S sender_begins in
-      let r = fresh-receiver-kept S receiver_begins in
+      let s = fresh_sender_kept T S sender_begins in
+      let r = fresh_receiver_kept S receiver_begins in
       let P : Sender → Receiver → Type 0 = λ s r. sender_rule s ≡ true → Eight s → receiver_rule r ≡ true
       → Inv S (record { sender = s; buffers = lent; receiver = r; forward = []; backward = []; seen = (start ours T S lent).seen }) in
       let fresh : P (fresh_sender T S) (fresh_receiver S) = λ rule eight receives.
@@ -83,7 +83,7 @@ module _ (T S : ℕ) (lent : List ℕ) (a : Allowed T S lent) where
         follows = omega arith;
         prefix = refl;
         good = λ j h. absurd (omega arith);
-        holds-it = λ i h. absurd (omega arith);
+        holds_it = λ i h. absurd (omega arith);
         items = empty;
         replies = empty;
       } in

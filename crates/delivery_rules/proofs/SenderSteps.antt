@@ -18,9 +18,9 @@ use Rattle.retry_rules.specs.Offer.{free_slot, stored_in, offer_of}
 use Rattle.retry_rules.specs.Send.{to_send, due_slot, send_point, one_sent}
 use Rattle.retry_rules.specs.Calls.{SenderCall}
 use Rattle.retry_rules.proofs.Laid.{laid_length, buffers_apart}
-use Rattle.retry_rules.proofs.Held.{stores, keeps-stored}
+use Rattle.retry_rules.proofs.Held.{stores, keeps_stored}
 use Rattle.retry_rules.proofs.Seen.{Offers}
-use Rattle.retry_rules.proofs.Kept.{offer-kept, eight_after, send_kept}
+use Rattle.retry_rules.proofs.Kept.{offer_kept, eight_after, send_kept}
 use Rattle.delivery_rules.specs.Ends.{Item, segment, damaged, Offering, Sending}
 use Rattle.delivery_rules.specs.Outside.{is_next, outstanding, gone_with}
 use Rattle.delivery_rules.specs.Model.{World, offered, sent}
@@ -29,7 +29,7 @@ use Rattle.delivery_rules.specs.Ours.{ours}
 use Rattle.delivery_rules.proofs.Round.{other_number, same_number}
 use Rattle.delivery_rules.proofs.Lines.{weaken, lower, snoc}
 use Rattle.delivery_rules.proofs.Seeing.{not_second}
-use Rattle.delivery_rules.proofs.Calls.{taken, offer-either, goes, send-either}
+use Rattle.delivery_rules.proofs.Calls.{taken, offer_either, goes, send_either}
 use Rattle.delivery_rules.proofs.Invariant.{IsItem, Inv, numbers}
 
 -- one more accepted: what stood at a place stands there
@@ -76,10 +76,10 @@ module _ (S : ℕ) (w : World ours) (v : Inv S w) where
                   subst (Good S)
                   (sym (get_or-append_seam acc x [] no_content) ∙ ap (λ (k : ℕ). get_or (acc ++ x ∷ []) k no_content) y) fits-S
             ];
-        holds-it = λ i h.
+        holds_it = λ i h.
             elim (dec_lt i c.stored) [
               | yes p ↦
-                  keeps-stored s w.buffers x.channel x.bad x.bytes v.eight o i p ∙ v.holds-it i p
+                  keeps_stored s w.buffers x.channel x.bad x.bytes v.eight o i p ∙ v.holds_it i p
                   ∙ sym (get_or-append acc (x ∷ []) no_content (g.released + i) (omega arith))
               | no p ↦
                   let last : i ≡ c.stored = omega arith in
@@ -100,10 +100,10 @@ module _ (S : ℕ) (w : World ours) (v : Inv S w) where
   pub offer_inv : (x : Content) → Inv S (offered ours w x (ours.offer w.sender w.buffers x))
   unfolding offer_of
   offer_inv x =
-      offer-either w.sender w.buffers x
+      offer_either w.sender w.buffers x
       (λ (a : Offering Sender). sender_rule a.state ≡ true → Eight a.state → Inv S (offered ours w x a))
       (λ o rule eight. taken_inv x o rule eight) (λ _ _ _. v)
-      (offer-kept w.sender (length w.buffers) x.channel x.bad (length x.bytes) v.eight v.rule)
+      (offer_kept w.sender (length w.buffers) x.channel x.bad (length x.bytes) v.eight v.rule)
       (eight_after w.sender (SenderCall.offer (length w.buffers) x.channel x.bad (length x.bytes)) v.eight)
 
   -- what is seen to have gone out once the segment at the send point goes
@@ -138,7 +138,7 @@ module _ (S : ℕ) (w : World ours) (v : Inv S w) where
       w.sender.counters.point < w.sender.counters.stored
       → held_content w.sender w.buffers (due_slot w.sender.counters)
       ≡ get_or w.seen.accepted (w.seen.released + w.sender.counters.point) no_content
-  due_is h = v.holds-it w.sender.counters.point h
+  due_is h = v.holds_it w.sender.counters.point h
 
   goes_inv :
       to_send w.sender.counters ≡ true → sender_rule (goes w.sender w.buffers).state ≡ true
@@ -163,7 +163,7 @@ module _ (S : ℕ) (w : World ours) (v : Inv S w) where
         follows = omega arith;
         prefix = v.prefix;
         good = v.good;
-        holds-it = v.holds-it;
+        holds_it = v.holds_it;
         items =
             snoc (segment (send_point c) (held_content w.sender w.buffers (due_slot c))) (g.released + c.point)
             (ap (λ (k : ℕ). (k + c.point) % 16) u.oldest ∙ same_number g.released c.point, due_is lt)
@@ -173,6 +173,6 @@ module _ (S : ℕ) (w : World ours) (v : Inv S w) where
 
   pub send_inv : (output : List ℕ) → Inv S (sent ours w (ours.send w.sender w.buffers output))
   send_inv output =
-      send-either w.sender w.buffers output (λ (a : Sending Sender). sender_rule a.state ≡ true → Inv S (sent ours w a))
+      send_either w.sender w.buffers output (λ (a : Sending Sender). sender_rule a.state ≡ true → Inv S (sent ours w a))
       (λ _ t rule. goes_inv t rule) (λ _ _. v)
       (send_kept w.sender (length w.buffers) (length output) v.rule)

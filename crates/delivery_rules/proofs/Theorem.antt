@@ -12,12 +12,12 @@ use Rattle.delivery_rules.specs.Outside.{stored}
 use Rattle.delivery_rules.specs.Model.{offer, World, offered, step, run}
 use Rattle.delivery_rules.specs.Demand.{AllGood, at, Delivers}
 use Rattle.delivery_rules.specs.Ours.{ours}
-use Rattle.delivery_rules.proofs.Calls.{offer-either}
+use Rattle.delivery_rules.proofs.Calls.{offer_either}
 use Rattle.delivery_rules.proofs.Invariant.{Inv, numbers, up}
 use Rattle.delivery_rules.proofs.Safety.{sender_begins, receiver_begins, step_inv, moment_inv, first_so_many}
 use Rattle.delivery_rules.proofs.Drills.{can_drill}
 use Rattle.delivery_rules.proofs.Resending.{Resends, drill_recovers}
-use Rattle.delivery_rules.proofs.Recovery.{point_of, sends_next, arrives-next, hears-next, ticks_on, at-expiry}
+use Rattle.delivery_rules.proofs.Recovery.{point_of, sends_next, arrives_next, hears_next, ticks_on, at_expiry}
 
 -- good offers are accepted while fewer than eight are stored
 accepts :
@@ -30,7 +30,7 @@ accepts S (y ∷ xs) w v x h g =
     let good = g.0 in
     let most : length y.bytes ≤ c.size = omega (arith, good.most, v.size) in
     let lent : length w.buffers ≡ 8 * c.size = omega (arith, v.lent, v.size) in
-    offer-either w.sender w.buffers y
+    offer_either w.sender w.buffers y
     (λ (a : Offering Sender). Inv S (offered ours w y a) → (run ours (map offer xs) (offered ours w y a)).seen.accepted ≡ w.seen.accepted ++ y ∷ xs)
     (λ _ inv. accepts S xs _ inv x (omega arith) g.1 ∙ append_assoc w.seen.accepted (y ∷ []) xs)
     (λ no. absurd
@@ -52,8 +52,8 @@ resends S =
       prefix = λ w v. v.prefix;
       low = λ w v. v.follows.low;
       sends = sends_next S;
-      arrives_at = arrives-next S;
-      hears-ack = hears-next S;
+      arrives_at = arrives_next S;
+      hears_ack = hears_next S;
       ticks_on = ticks_on S;
       at_rest = λ w v none.
           let n = (numbers w.sender v.rule).numbers in
@@ -63,7 +63,7 @@ resends S =
           let n = (numbers w.sender v.rule).numbers in
           let u = v.counts in
           omega arith;
-      at-expiry = at-expiry S;
+      at_expiry = at_expiry S;
       accepts = λ w v few released xs eight good.
           let u = v.counts in
           accepts S xs w v few (omega arith) good;

@@ -6,7 +6,7 @@ use native.Mathlib.Omega.{arith}
 use Rattle.retry_rules.specs.declared.Sender.{Sender}
 use Rattle.retry_rules.specs.Reply.{to_oldest, timer_at, with_counters}
 use Rattle.retry_rules.specs.Tick.{expired, fallen, ticked, tick_of}
-use Rattle.retry_rules.proofs.Steps.{ticked-cases}
+use Rattle.retry_rules.proofs.Steps.{ticked_cases}
 use Rattle.delivery_rules.specs.Outside.{Seen, seen_with, seen_tick}
 use Rattle.delivery_rules.specs.Model.{World}
 use Rattle.delivery_rules.specs.Ours.{ours}
@@ -15,7 +15,7 @@ use Rattle.delivery_rules.proofs.Calls.{ticks}
 use Rattle.delivery_rules.proofs.Invariant.{Inv, numbers, up}
 
 module _ (S : ℕ) (w : World ours) (v : Inv S w) (h : w.seen.expiries < 3) (P : Sender → Seen → Type 0) where
-  pub tick-either :
+  pub tick_either :
       (w.seen.gone ≤ w.seen.released → P w.sender w.seen)
       → (w.seen.released < w.seen.gone → (w.seen.ticks + 1 ≡ w.seen.columns → ⊥)
       → P (with_counters w.sender (timer_at (w.sender.counters.timer - 1) w.sender.counters.expiries w.sender.counters))
@@ -27,14 +27,14 @@ module _ (S : ℕ) (w : World ours) (v : Inv S w) (h : w.seen.expiries < 3) (P :
       → P (with_counters w.sender (fallen (expired w.sender.counters)))
       (seen_with w.seen w.seen.gone w.seen.released 0 (w.seen.expiries + 1)))
       → P (tick_of w.sender).sender (seen_tick w.seen)
-  tick-either idle plain again third =
+  tick_either idle plain again third =
       let s = w.sender in
       let c = s.counters in
       let g = w.seen in
       let n = (numbers s v.rule).numbers in
       let u = v.counts in
       let all : P (with_counters s (ticked c)) (seen_tick g) =
-      ticked-cases (λ d. P (with_counters s d) (seen_tick g)) c
+      ticked_cases (λ d. P (with_counters s d) (seen_tick g)) c
       (λ none.
       let still : g.gone ≤ g.released = omega arith in
       rw (unticked g (stands g still)) (idle still))

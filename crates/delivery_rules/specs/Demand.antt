@@ -106,7 +106,7 @@ module _ (E : Ends) where
   pub record Recovered (S : ℕ) (before after : World E) : Type 0 where
     pub all : after.seen.delivered ≡ before.seen.accepted
     pub none_stored : stored after.seen ≡ 0
-    pub eight-free :
+    pub eight_free :
         (xs : List Content) → length xs ≡ 8 → AllGood S xs → (run E (map offer xs) after).seen.accepted ≡ after.seen.accepted ++ xs
 
   pub record Delivers : Type 0 where

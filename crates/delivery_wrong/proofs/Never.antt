@@ -72,7 +72,7 @@ module _ (E : Ends) where
   -- ends that meet the demand accept the eight
   accepted_all : Delivers E → (run E (map offer eight) begin).seen.accepted ≡ eight
   unfolding fresh no_drill run expire_once
-  accepted_all d = (d.recovers fresh refl (omega arith) no_drill).eight-free eight refl all_good
+  accepted_all d = (d.recovers fresh refl (omega arith) no_drill).eight_free eight refl all_good
 
   -- and deliver them
   delivered_all : (d : Delivers E) → (r : Drill E (at E offered)) × ((drilled E (at E offered) r).seen.delivered ≡ eight)

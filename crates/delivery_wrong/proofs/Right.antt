@@ -74,13 +74,13 @@ module _ (really : Bool) where
         } in
         subst P (sym goes) there (step_inv really (send output) w v)
 
-    arrives-next :
+    arrives_next :
         (j k : ℕ) (x : Content) (rest : List Item) (output : List ℕ) (r : Re j w)
         → IsItem w.seen.accepted (segment k x) r.b → Sequence (IsItem w.seen.accepted) (suc r.b) j rest
         → Inv (arrived (plain (rule_choice really)) w rest (plain_arrive (rule_choice really) w.receiver (segment k x) true output))
         → Re j (arrived (plain (rule_choice really)) w rest (plain_arrive (rule_choice really) w.receiver (segment k x) true output))
     unfolding plain_arrive among_last
-    arrives-next j k x rest output r is l =
+    arrives_next j k x rest output r is l =
         let t = w.receiver.taken in
         let e : ℕ = length w.seen.delivered in
         let u = r.inv.counts in
@@ -126,12 +126,12 @@ module _ (really : Bool) where
             let near = subst (λ (m : ℕ). between k (m % 16) < min m 8) (sym q) (subst (λ (m : ℕ). between m (e % 16) < min e 8) (sym p) h) in
             by_cases (λ (n : ℕ). between k (t % 16) < n) really (λ _. near) (λ _. omega arith)
 
-    hears-next :
+    hears_next :
         (j k : ℕ) (rest : List Reply) (r : Re j w) → k ≡ w.seen.released % 16 → Sequence IsAck (suc w.seen.released) r.b rest
         → Inv (told (plain (rule_choice really)) w (plain_hear (rule_choice really) w.sender (ack k)) rest (seen_reply w.seen (ack k)))
         → Re j (told (plain (rule_choice really)) w (plain_hear (rule_choice really) w.sender (ack k)) rest (seen_reply w.seen (ack k)))
     unfolding plain_hear
-    hears-next j k rest r q l =
+    hears_next j k rest r q l =
         let s = w.sender in
         let g = w.seen in
         let u = r.inv.counts in
@@ -161,7 +161,7 @@ module _ (really : Bool) where
         (subst (P (plain_release (rule_choice really) s (ahead (rule_choice really) s k + 1))) (sym seen) there)
 
     -- a tick: nothing outstanding, before the T-th, or an expiry
-    tick-either :
+    tick_either :
         Inv w → w.seen.expiries ≤ 2 → (P : PlainSender → Seen → Type 0) → (w.seen.gone ≤ w.seen.released → P w.sender w.seen)
         → (w.seen.released < w.seen.gone → (w.seen.ticks + 1 ≡ w.seen.columns → ⊥)
         → P (moved w.sender w.sender.point (w.sender.ticks + 1) w.sender.expiries)
@@ -171,7 +171,7 @@ module _ (really : Bool) where
         (seen_with w.seen w.seen.gone w.seen.released 0 (w.seen.expiries + 1)))
         → P (plain_tick w.sender) (seen_tick w.seen)
     unfolding plain_tick
-    tick-either v few P none plain last =
+    tick_either v few P none plain last =
         let s = w.sender in
         let g = w.seen in
         let u = v.counts in
@@ -192,7 +192,7 @@ module _ (really : Bool) where
     ticks_on : (j : ℕ) → Re j w → NoExpiry (plain (rule_choice really)) w → Re j (step (plain (rule_choice really)) tick w)
     unfolding step
     ticks_on j r quiet =
-        tick-either r.inv r.few
+        tick_either r.inv r.few
         (λ s g. g.expiries ≡ w.seen.expiries → Inv (told (plain (rule_choice really)) w s w.backward g)
         → Re j (told (plain (rule_choice really)) w s w.backward g))
         (λ _ _ _. r)
@@ -207,13 +207,13 @@ module _ (really : Bool) where
         })
         (λ _ _ q. absurd (omega arith)) quiet (step_inv really tick w r.inv)
 
-    at-expiry :
+    at_expiry :
         Inv w → w.seen.expiries < 2 → w.seen.released < w.seen.gone → w.seen.ticks + 1 ≡ w.seen.columns
         → (step (plain (rule_choice really)) tick w).sender.point ≡ w.seen.released
     unfolding step
-    at-expiry v few some last =
+    at_expiry v few some last =
         let u = v.counts in
-        tick-either v (omega arith) (λ s g. s.point ≡ w.seen.released) (λ none. absurd (omega arith)) (λ _ no. absurd (no last))
+        tick_either v (omega arith) (λ s g. s.point ≡ w.seen.released) (λ none. absurd (omega arith)) (λ _ no. absurd (no last))
         (λ _ _. cond_true (ltb w.sender.expiries 2) w.sender.released _ (lt-ltb w.sender.expiries 2 (omega arith)) ∙ u.released)
 
   -- the buffers are empty
@@ -240,14 +240,14 @@ module _ (really : Bool) where
         prefix = λ w v. v.prefix;
         low = λ w v. v.counts.low;
         sends = λ w j output r lt _. sends_next w j output r lt;
-        arrives_at = λ w j k x rest output r is l _ inv. arrives-next w j k x rest output r is l inv;
-        hears-ack = hears-next;
+        arrives_at = λ w j k x rest output r is l _ inv. arrives_next w j k x rest output r is l inv;
+        hears_ack = hears_next;
         ticks_on = ticks_on;
         at_rest = λ w v none.
             let u = v.counts in
             omega arith;
         time_left = λ w v. v.counts.ticks_lt;
-        at-expiry = at-expiry;
+        at_expiry = at_expiry;
         accepts = λ w v few released xs eight good.
             let u = v.counts in
             accepts S xs w v few (omega arith) good;

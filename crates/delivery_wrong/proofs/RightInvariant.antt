@@ -43,7 +43,7 @@ module _ (really : Bool) where
     pub counts : Counts w.sender w.receiver w.seen
     pub eight : length w.sender.held ≡ 8
     pub prefix : w.seen.delivered ≡ take (length w.seen.delivered) w.seen.accepted
-    pub holds-it :
+    pub holds_it :
         (i : ℕ) → i < w.sender.stored
         → get_or w.sender.held ((w.seen.released + i) % 8) no_content ≡ get_or w.seen.accepted (w.seen.released + i) no_content
     pub items : Line (IsItem w.seen.accepted) IsDamaged w.seen.gone (length w.seen.delivered) w.forward
@@ -83,43 +83,43 @@ module _ (really : Bool) where
         stands w.seen (omega arith))
 
     -- another send point, timer and count
-    moved-inv :
+    moved_inv :
         (point ticks expiries seen-ticks counted : ℕ) (rest : List Reply) → w.seen.released ≤ point → point ≤ w.seen.gone → ticks < w.seen.columns
         → ticks ≡ seen-ticks → expiries ≡ counted → Line IsAck IsIdle (length w.seen.delivered) w.seen.released rest
         → Inv (told (plain (rule_choice really)) w (moved w.sender point ticks expiries) rest
         (seen_with w.seen w.seen.gone w.seen.released seen-ticks counted))
-    moved-inv point ticks expiries seen-ticks counted rest a b c d e l =
+    moved_inv point ticks expiries seen-ticks counted rest a b c d e l =
         let u = v.counts in
-        record { counts = omega arith; eight = v.eight; prefix = v.prefix; holds-it = v.holds-it; items = v.items; replies = l }
+        record { counts = omega arith; eight = v.eight; prefix = v.prefix; holds_it = v.holds_it; items = v.items; replies = l }
 
     same_inv :
         (rest : List Reply) → Line IsAck IsIdle (length w.seen.delivered) w.seen.released rest
         → Inv (told (plain (rule_choice really)) w w.sender rest w.seen)
     same_inv rest l =
-        record { counts = v.counts; eight = v.eight; prefix = v.prefix; holds-it = v.holds-it; items = v.items; replies = l }
+        record { counts = v.counts; eight = v.eight; prefix = v.prefix; holds_it = v.holds_it; items = v.items; replies = l }
 
-    back-inv :
+    back_inv :
         (rest : List Reply) → Line IsAck IsIdle (length w.seen.delivered) w.seen.released rest
         → Inv (told (plain (rule_choice really)) w (moved w.sender w.sender.released w.sender.ticks w.sender.expiries) rest w.seen)
-    back-inv rest l =
+    back_inv rest l =
         let u = v.counts in
-        record { counts = omega arith; eight = v.eight; prefix = v.prefix; holds-it = v.holds-it; items = v.items; replies = l }
+        record { counts = omega arith; eight = v.eight; prefix = v.prefix; holds_it = v.holds_it; items = v.items; replies = l }
 
     -- the oldest is released
-    released-inv :
+    released_inv :
         (n : ℕ) (rest : List Reply) → n ≡ 1 → w.seen.released < length w.seen.delivered
         → Line IsAck IsIdle (length w.seen.delivered) (suc w.seen.released) rest
         → Inv (told (plain (rule_choice really)) w (plain_release (rule_choice really) w.sender n) rest (seen_with w.seen w.seen.gone (w.seen.released + 1) 0 0))
-    released-inv n rest q h l =
+    released_inv n rest q h l =
         let u = v.counts in
         let g = w.seen in
         record {
           counts = omega arith;
           eight = v.eight;
           prefix = v.prefix;
-          holds-it = λ i h'.
+          holds_it = λ i h'.
               let p : g.released + 1 + i ≡ g.released + (1 + i) = omega arith in
-              rw p (v.holds-it (1 + i) (omega arith));
+              rw p (v.holds_it (1 + i) (omega arith));
           items = lower (omega arith) (omega arith) v.items;
           replies = lower (omega arith) (omega arith) l;
         }
@@ -147,12 +147,12 @@ module _ (really : Bool) where
         let low : a.j < g.released + 8 = omega arith in
         let j-is = near_is a.j g.released a.near low (sym is ∙ mine) in
         rw (own_ack g on.0 on.1 k mine)
-        (released-inv (ahead (rule_choice really) s k + 1) rest (omega arith) (omega arith) (lower (omega arith) (omega arith) a.rest)))
+        (released_inv (ahead (rule_choice really) s k + 1) rest (omega arith) (omega arith) (lower (omega arith) (omega arith) a.rest)))
         (λ e.
         let far = ltb-false (ahead (rule_choice really) s k) 1 e in
         let not-mine = other_ack g k (λ q. absurd (omega (arith, none_ahead k s.released (q ∙ sym same), far))) in
         by_cases P (among_last (eight_of (rule_choice really) s.released) (s.released % 16) k) (λ _. rw not-mine (same_inv rest (tail l)))
-        (λ _. rw not-mine (back-inv rest (tail l)))))
+        (λ _. rw not-mine (back_inv rest (tail l)))))
 
     nack_inv :
         (k : ℕ) (rest : List Reply) → Line IsAck IsIdle (length w.seen.delivered) w.seen.released (nack k ∷ rest)
@@ -169,8 +169,8 @@ module _ (really : Bool) where
         let on = runs t in
         by_cases P (eqb k (s.released % 16))
         (λ e. rw (own_nack g on.0 on.1 k (eqb-true k (s.released % 16) e ∙ same))
-        (moved-inv s.released 0 0 0 0 rest (omega arith) (omega arith) (omega arith) refl refl (tail l)))
-        (λ e. rw (other_nack g k (λ q. eqb-false k (s.released % 16) e (q ∙ sym same))) (back-inv rest (tail l))))
+        (moved_inv s.released 0 0 0 0 rest (omega arith) (omega arith) (omega arith) refl refl (tail l)))
+        (λ e. rw (other_nack g k (λ q. eqb-false k (s.released % 16) e (q ∙ sym same))) (back_inv rest (tail l))))
 
     pub hears_inv : (l : List Reply) → Line IsAck IsIdle (length w.seen.delivered) w.seen.released l → Inv (hears (plain (rule_choice really)) w l)
     unfolding plain_hear seen_reply
@@ -194,11 +194,11 @@ module _ (really : Bool) where
         let last = eqb-true (s.ticks + 1) s.columns e in
         let expires : (p : ℕ) → g.released ≤ p → p ≤ g.gone → P (moved s p 0 (s.expiries + 1)) = λ p lo hi.
         rw (expiry g on.0 on.1 (omega arith))
-        (moved-inv p 0 (s.expiries + 1) 0 (g.expiries + 1) w.backward lo hi (omega arith) refl (omega arith) v.replies) in
+        (moved_inv p 0 (s.expiries + 1) 0 (g.expiries + 1) w.backward lo hi (omega arith) refl (omega arith) v.replies) in
         by_cases (λ (p : ℕ). P (moved s p 0 (s.expiries + 1))) (ltb s.expiries 2) (λ _. expires s.released (omega arith) (omega arith))
         (λ _. expires s.point u.point_ge u.point_le))
         (λ e.
         let more = eqb-false (s.ticks + 1) s.columns e in
         rw (plain_tick_lem g on.0 on.1 (λ q. omega arith))
-        (moved-inv s.point (s.ticks + 1) s.expiries (g.ticks + 1) g.expiries w.backward u.point_ge u.point_le (omega arith)
+        (moved_inv s.point (s.ticks + 1) s.expiries (g.ticks + 1) g.expiries w.backward u.point_ge u.point_le (omega arith)
         (omega arith) u.expiries v.replies)))

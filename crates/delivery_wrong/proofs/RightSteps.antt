@@ -63,12 +63,12 @@ module _ (really : Bool) where
           counts = omega arith;
           eight = length-set s.held ((s.released + s.stored) % 8) x ∙ v.eight;
           prefix = v.prefix ∙ sym (take-append-le (length g.delivered) acc (x ∷ []) (omega arith));
-          holds-it = λ i h.
+          holds_it = λ i h.
               elim (dec_lt i s.stored) [
                 | yes p ↦
                     get_or-set_other s.held ((s.released + s.stored) % 8) ((g.released + i) % 8) x no_content
                     (λ q. apart g.released i s.stored p free (q ∙ slot))
-                    ∙ v.holds-it i p
+                    ∙ v.holds_it i p
                     ∙ sym (get_or-append acc (x ∷ []) no_content (g.released + i) (omega arith))
                 | no p ↦
                     let last : g.released + i ≡ s.released + s.stored = omega arith in
@@ -115,7 +115,7 @@ module _ (really : Bool) where
         let g = w.seen in
         let u = v.counts in
         let at : g.released + (s.point - g.released) ≡ s.point = omega arith in
-        subst (λ (p : ℕ). get_or s.held (p % 8) no_content ≡ get_or g.accepted p no_content) at (v.holds-it (s.point - g.released) (omega arith))
+        subst (λ (p : ℕ). get_or s.held (p % 8) no_content ≡ get_or g.accepted p no_content) at (v.holds_it (s.point - g.released) (omega arith))
 
     goes_inv : w.sender.point < w.sender.released + w.sender.stored → Inv (sent (plain (rule_choice really)) w (plain_goes (rule_choice really) w.sender))
     goes_inv h =
@@ -126,7 +126,7 @@ module _ (really : Bool) where
           counts = omega arith;
           eight = v.eight;
           prefix = v.prefix;
-          holds-it = v.holds-it;
+          holds_it = v.holds_it;
           items = snoc _ s.point (refl, due_is h) (omega arith) (omega arith) (omega arith) (lower (omega arith) (omega arith) v.items);
           replies = v.replies;
         }
@@ -139,23 +139,23 @@ module _ (really : Bool) where
         (λ t. goes_inv (ltb-true s.point (s.released + s.stored) (second_true (not (fallen s)) _ t))) (λ _. v)
 
     -- arrivals
-    lined-inv :
+    lined_inv :
         (f : List Item) (b : List Reply) → Line (IsItem w.seen.accepted) IsDamaged w.seen.gone (length w.seen.delivered) f
         → Line IsAck IsIdle (length w.seen.delivered) w.seen.released b → Inv (lined (plain (rule_choice really)) w f b)
-    lined-inv f b p q = record { counts = v.counts; eight = v.eight; prefix = v.prefix; holds-it = v.holds-it; items = p; replies = q }
+    lined_inv f b p q = record { counts = v.counts; eight = v.eight; prefix = v.prefix; holds_it = v.holds_it; items = p; replies = q }
 
     denies_inv :
         (i : Item) (rest : List Item) → Line (IsItem w.seen.accepted) IsDamaged w.seen.gone (length w.seen.delivered) (i ∷ rest)
         → Inv (arrived (plain (rule_choice really)) w rest (replied (nack (w.receiver.taken % 16)) w.receiver))
     denies_inv i rest l =
-        lined-inv rest _ (tail l) (snoc_skip (nack (w.receiver.taken % 16)) (omega arith) v.replies)
+        lined_inv rest _ (tail l) (snoc_skip (nack (w.receiver.taken % 16)) (omega arith) v.replies)
 
-    arrived-inv :
+    arrived_inv :
         (i : Item) (rest : List Item) (room : Bool) (output : List ℕ)
         → Line (IsItem w.seen.accepted) IsDamaged w.seen.gone (length w.seen.delivered) (i ∷ rest)
         → Inv (arrived (plain (rule_choice really)) w rest (plain_arrive (rule_choice really) w.receiver i room output))
     unfolding plain_arrive among_last
-    arrived-inv (segment k x) rest room output l =
+    arrived_inv (segment k x) rest room output l =
         let r = w.receiver in
         let g = w.seen in
         let u = v.counts in
@@ -175,7 +175,7 @@ module _ (really : Bool) where
           counts = omega arith;
           eight = v.eight;
           prefix = one_more g.delivered g.accepted x v.prefix (omega arith) content;
-          holds-it = v.holds-it;
+          holds_it = v.holds_it;
           items = lower (omega arith) (omega arith) a.rest;
           replies = snoc (ack k) a.j is (omega arith) (omega arith) (omega arith) (lower (omega arith) (omega arith) v.replies);
         })
@@ -186,26 +186,26 @@ module _ (really : Bool) where
         let lt = ltb-true (between k (r.taken % 16)) (eight_of (rule_choice really) r.taken) last in
         let lt' : between (a.j % 16) (e % 16) < 8 = among_at k a.j r.taken e is u.taken (omega (arith, lt, eight_le r.taken)) in
         let before : a.j < e = among_is a.j e low (λ p. ne (is ∙ ap (λ (j : ℕ). j % 16) p ∙ sym expected)) lt' in
-        lined-inv rest _ (tail l) (snoc (ack k) a.j is (omega arith) (omega arith) (omega arith) v.replies))
+        lined_inv rest _ (tail l) (snoc (ack k) a.j is (omega arith) (omega arith) (omega arith) v.replies))
         (λ _. denies_inv (segment k x) rest l))
-    arrived-inv damaged rest room output l = denies_inv damaged rest l
+    arrived_inv damaged rest room output l = denies_inv damaged rest l
 
-    arrives-inv :
+    arrives_inv :
         (room : Bool) (output : List ℕ) (l : List Item) → Line (IsItem w.seen.accepted) IsDamaged w.seen.gone (length w.seen.delivered) l
         → Inv (arrives (plain (rule_choice really)) w room output l)
-    arrives-inv room output [] l = v
-    arrives-inv room output (i ∷ rest) l = arrived-inv i rest room output l
+    arrives_inv room output [] l = v
+    arrives_inv room output (i ∷ rest) l = arrived_inv i rest room output l
 
   pub step_inv : (e : Event) (w : World (plain (rule_choice really))) → Inv w → Inv (step (plain (rule_choice really)) e w)
   unfolding step
   step_inv (offer x) w v = offer_inv w v x
   step_inv (send output) w v = send_inv w v output
-  step_inv (arrive room output) w v = arrives-inv w v room output w.forward v.items
-  step_inv (lose n) w v = lined-inv w v (without w.forward n) w.backward (lost n v.items) v.replies
-  step_inv (damage n) w v = lined-inv w v (set w.forward n damaged) w.backward (damaged_at n damaged tt v.items) v.replies
+  step_inv (arrive room output) w v = arrives_inv w v room output w.forward v.items
+  step_inv (lose n) w v = lined_inv w v (without w.forward n) w.backward (lost n v.items) v.replies
+  step_inv (damage n) w v = lined_inv w v (set w.forward n damaged) w.backward (damaged_at n damaged tt v.items) v.replies
   step_inv hear w v = hears_inv really w v w.backward v.replies
-  step_inv (lose-reply n) w v = lined-inv w v w.forward (without w.backward n) v.items (lost n v.replies)
-  step_inv (damage-reply n) w v = lined-inv w v w.forward (set w.backward n damaged_reply) v.items (damaged_at n damaged_reply tt v.replies)
+  step_inv (lose-reply n) w v = lined_inv w v w.forward (without w.backward n) v.items (lost n v.replies)
+  step_inv (damage-reply n) w v = lined_inv w v w.forward (set w.backward n damaged_reply) v.items (damaged_at n damaged_reply tt v.replies)
   step_inv tick w v = tick_inv really w v
 
   pub run_inv : (es : List Event) (w : World (plain (rule_choice really))) → Inv w → Inv (run (plain (rule_choice really)) es w)
@@ -219,7 +219,7 @@ module _ (really : Bool) where
         counts = omega arith;
         eight = refl;
         prefix = refl;
-        holds-it = λ i l. absurd (omega arith);
+        holds_it = λ i l. absurd (omega arith);
         items = empty;
         replies = empty;
       }

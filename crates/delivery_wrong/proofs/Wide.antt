@@ -31,17 +31,17 @@ module _ (n : ℕ) where
   filled [] w = w
   filled (x ∷ xs) w = filled xs (offered (wide n) w x (plain_taken (wide_choice n) w.sender w.buffers x))
 
-  offers-fill :
+  offers_fill :
       (xs : List Content) (w : World (wide n)) → w.sender.expiries ≤ 2 → w.sender.stored + length xs ≤ n
       → run (wide n) (map offer xs) w ≡ filled xs w
   unfolding run step plain_offer
-  offers-fill [] w few h = refl
-  offers-fill (x ∷ xs) w few h =
+  offers_fill [] w few h = refl
+  offers_fill (x ∷ xs) w few h =
       let s = w.sender in
       let up : not (fallen s) ≡ true = ap not (le-ltb 2 s.expiries few) in
       let free = lt-ltb s.stored n (omega arith) in
       let taken = cond_true _ (plain_taken (wide_choice n) s w.buffers x) _ (both_true (not (fallen s)) (ltb s.stored n) up free) in
-      ap (λ (a : Offering PlainSender). run (wide n) (map offer xs) (offered (wide n) w x a)) taken ∙ offers-fill xs _ few (omega arith)
+      ap (λ (a : Offering PlainSender). run (wide n) (map offer xs) (offered (wide n) w x a)) taken ∙ offers_fill xs _ few (omega arith)
 
   -- what follows turns on no window
   stuck : breaks_at (wide n) (run (wide n) nine_sent (filled (segments 0 9) (start (wide n) 1 8 lent))) (times 9 round) ≡ true
@@ -52,5 +52,5 @@ module _ (n : ℕ) where
   wide_refused h =
       let w = start (wide n) 1 8 lent in
       let is : after (wide n) nine_lost ≡ run (wide n) nine_sent (filled (segments 0 9) w) =
-      run_append (wide n) (map offer (segments 0 9)) nine_sent w ∙ ap (run (wide n) nine_sent) (offers-fill (segments 0 9) w (omega arith) h) in
+      run_append (wide n) (map offer (segments 0 9)) nine_sent w ∙ ap (run (wide n) nine_sent) (offers_fill (segments 0 9) w (omega arith) h) in
       unrecovered_at (wide n) nine_lost (times 9 round) (subst (λ (w : World (wide n)). breaks_at (wide n) w (times 9 round) ≡ true) (sym is) stuck)

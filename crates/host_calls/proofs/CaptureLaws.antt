@@ -35,11 +35,11 @@ module _ (characters : List ℕ) (old : Packs) where
   unfolding packs
   pack_done n e = rw (← e) (done_called _ _ _ refl)
 
-  pub pack-refused :
+  pub pack_refused :
       (n : ℕ) → refused n ≡ pack_says characters (length old.capture)
       → packs characters old ≡ record { refusal = n; lent = record { capture = pack_leaves characters old.capture; bytes = old.bytes } }
   unfolding packs
-  pack-refused n e = rw (← e, pack_leaves_lem characters old.capture n e) (same_called n old)
+  pack_refused n e = rw (← e, pack_leaves_lem characters old.capture n e) (same_called n old)
 
 module _ (capture : List ℕ) (old : Unpacks) where
   pub unpack_done :
@@ -48,8 +48,8 @@ module _ (capture : List ℕ) (old : Unpacks) where
   unfolding unpacks
   unpack_done n e = rw (← e) (done_called _ _ _ refl)
 
-  pub unpack-refused :
+  pub unpack_refused :
       (n : ℕ) → refused n ≡ unpack_says capture (length old.characters)
       → unpacks capture old ≡ record { refusal = n; lent = record { characters = unpack_leaves capture old.characters; count = old.count } }
   unfolding unpacks
-  unpack-refused n e = rw (← e, unpack_leaves_lem capture old.characters n e) (same_called n old)
+  unpack_refused n e = rw (← e, unpack_leaves_lem capture old.characters n e) (same_called n old)

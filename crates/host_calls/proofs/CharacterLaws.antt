@@ -29,23 +29,23 @@ module _ (byte control : ℕ) (old : Writes) where
   write_refused n e = rw (← e) (same_called n old)
 
 module _ (character : ℕ) (old : Reads) where
-  pub read-clean :
+  pub read_clean :
       (s : Symbol) (d : ℤ) → clean s d ≡ reading character old.disparity
       → reads character old ≡ record { refusal = 0; lent = record { disparity = d; violation = 0; byte = s.byte; control = mark_number s.control } }
   unfolding reads
-  read-clean s d e = rw (← e) (done_called _ _ _ refl)
+  read_clean s d e = rw (← e) (done_called _ _ _ refl)
 
-  pub read-wrong :
+  pub read_wrong :
       (s : Symbol) (d : ℤ) → wrong_disparity s d ≡ reading character old.disparity
       → reads character old ≡ record { refusal = 0; lent = record { disparity = d; violation = 2; byte = s.byte; control = mark_number s.control } }
   unfolding reads
-  read-wrong s d e = rw (← e) (done_called _ _ _ refl)
+  read_wrong s d e = rw (← e) (done_called _ _ _ refl)
 
-  pub read-invalid :
+  pub read_invalid :
       (d : ℤ) → invalid d ≡ reading character old.disparity
       → reads character old ≡ record { refusal = 0; lent = record { disparity = d; violation = 1; byte = 0; control = 0 } }
   unfolding reads
-  read-invalid d e = rw (← e) (done_called _ _ _ refl)
+  read_invalid d e = rw (← e) (done_called _ _ _ refl)
 
   pub read_refused : (n : ℕ) → not_read n ≡ reading character old.disparity → reads character old ≡ record { refusal = n; lent = old }
   unfolding reads
@@ -62,9 +62,9 @@ module _ (characters : List ℕ) (old : ReadsRun) where
   unfolding reads_run
   run_done d e = rw (← e) (done_called _ _ _ refl)
 
-  pub run-refused :
+  pub run_refused :
       (n : ℕ) → not_run_read n ≡ run_reading characters old.disparity (length old.results)
       → reads_run characters old ≡ record { refusal = n; lent = record { disparity = old.disparity; results = results } }
   unfolding reads_run
-  run-refused n e =
+  run_refused n e =
       rw (← e, run_leaves characters old.disparity old.results n e) (same_called n old)

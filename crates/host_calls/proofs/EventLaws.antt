@@ -63,12 +63,12 @@ module _ (capture : List ℕ) (old : ReadsCapture) (a : CaptureRead) (e : a ≡ 
   abbrev pub places : List ℕ
   places = events_numbers capture old.reader old.disparity old.events
 
-  pub capture-refused :
+  pub capture_refused :
       (a.refusal ≡ 0 → ⊥)
       → reads_capture capture old
       ≡ record { refusal = a.refusal; lent = record { reader = old.reader; disparity = old.disparity; events = places; count = old.count } }
   unfolding reads_capture
-  capture-refused h =
+  capture_refused h =
       rw (← e)
       (refused_called _ _ _ h
       ∙ sym (ap (λ (out : List ℕ). record {
@@ -82,9 +82,9 @@ module _ (capture : List ℕ) (old : ReadsCapture) (a : CaptureRead) (e : a ≡ 
       })
       (numbers_leave capture old.reader old.disparity old.events (λ z. h (ap (λ (x : CaptureRead). x.refusal) e ∙ z)))))
 
-  pub capture-done :
+  pub capture_done :
       a.refusal ≡ 0
       → reads_capture capture old
       ≡ record { refusal = a.refusal; lent = record { reader = reader_bytes a.reader; disparity = a.disparity; events = places; count = a.count } }
   unfolding reads_capture
-  capture-done h = rw (← e) (done_called _ _ _ h)
+  capture_done h = rw (← e) (done_called _ _ _ h)

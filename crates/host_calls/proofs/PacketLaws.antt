@@ -31,26 +31,26 @@ module _ (violation byte control : ℕ) (old : Steps) (a : Answer) (e : a ≡ st
   unfolding steps
   step_refused h = rw (← e, ← f) (refused_called _ _ _ h)
 
-  pub step-done :
+  pub step_done :
       t.refusal ≡ 0
       → steps violation byte control old
       ≡ record { refusal = t.refusal; lent = record { reader = reader_bytes a.reader; event = t.event; value = t.value; number = t.number } }
   unfolding steps
-  step-done h = rw (← e, ← f) (done_called _ _ _ h)
+  step_done h = rw (← e, ← f) (done_called _ _ _ h)
 
 module _ (size : ℕ) (packet : Packet) (old : WritesPacket) where
   -- the characters as the rule says, which on a refusal are as they stood
   abbrev pub characters : List ℕ
   characters = packet_output size packet old.disparity old.characters
 
-  pub packet-done :
+  pub packet_done :
       (n : ℕ) (d : ℤ) → wrote n d ≡ packet_writing size packet old.disparity old.characters
       → writes_packet size packet old ≡ record { refusal = 0; lent = record { disparity = d; characters = characters; count = n } }
   unfolding writes_packet
-  packet-done n d e = rw (← e) (done_called _ _ _ refl)
+  packet_done n d e = rw (← e) (done_called _ _ _ refl)
 
-  pub packet-refused :
+  pub packet_refused :
       (n : ℕ) → not_wrote n ≡ packet_writing size packet old.disparity old.characters
       → writes_packet size packet old ≡ record { refusal = n; lent = record { disparity = old.disparity; characters = characters; count = old.count } }
   unfolding writes_packet
-  packet-refused n e = rw (← e, packet_leaves size packet old.disparity old.characters n e) (same_called n old)
+  packet_refused n e = rw (← e, packet_leaves size packet old.disparity old.characters n e) (same_called n old)

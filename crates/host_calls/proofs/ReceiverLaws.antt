@@ -8,7 +8,7 @@ use Rattle.retry_rules.specs.declared.Arrived.{Arrived}
 use Rattle.retry_rules.specs.declared.Begun.{Begun}
 use Rattle.retry_rules.specs.Fresh.{fresh_receiver_of}
 use Rattle.retry_rules.specs.Arrival.{arrival_of, arrival_output, damaged_arrival_of}
-use Rattle.retry_rules.proofs.Refusals.{arrival-leaves}
+use Rattle.retry_rules.proofs.Refusals.{arrival_leaves}
 use Rattle.host_rules.specs.Numbers.{mark_of, mark_number}
 use Rattle.host_rules.proofs.Numbers.{refused_called, done_called}
 use Rattle.host_retry_rules.specs.ReceiverBytes.{receiver_in, receiver_bytes}
@@ -77,10 +77,10 @@ module _ (number channel bad : ℕ) (bytes : List ℕ) (room : ℕ) (old : Arriv
           nack = old.nack;
           reply = old.reply;
         };
-      }) (arrival-leaves (receiver_in old.receiver) number channel (mark_of bad) bytes (mark_of room) old.output
+      }) (arrival_leaves (receiver_in old.receiver) number channel (mark_of bad) bytes (mark_of room) old.output
       (λ z. h (ap (λ (x : Arrived). x.refusal) e ∙ z)))))
 
-  pub arrival-done :
+  pub arrival_done :
       a.refusal ≡ 0
       → arrives number channel bad bytes room old
       ≡ record {
@@ -97,4 +97,4 @@ module _ (number channel bad : ℕ) (bytes : List ℕ) (room : ℕ) (old : Arriv
         };
       }
   unfolding arrives
-  arrival-done h = rw (← e) (done_called _ _ _ h)
+  arrival_done h = rw (← e) (done_called _ _ _ h)

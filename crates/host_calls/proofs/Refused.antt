@@ -102,7 +102,7 @@ unfolding arrives_damaged
 damaged_arrival_keeps old = lent_stands _ _ _
 
 -- whatever a call is: two outcomes, each an answer and what is then lent, that both are what the call comes to, are one
-pub one-outcome :
+pub one_outcome :
     {A : Type 0} (after : Called A) (r r' : ℕ) (lent lent' : A) → r ≡ after.refusal → lent ≡ after.lent → r' ≡ after.refusal
     → lent' ≡ after.lent → (r ≡ r') × (lent ≡ lent')
-one-outcome after r r' lent lent' p q p' q' = (p ∙ sym p', q ∙ sym q')
+one_outcome after r r' lent lent' p q p' q' = (p ∙ sym p', q ∙ sym q')

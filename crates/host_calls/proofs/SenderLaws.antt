@@ -13,7 +13,7 @@ use Rattle.retry_rules.specs.Offer.{offer_of, offer_buffers}
 use Rattle.retry_rules.specs.Send.{send_of, send_output}
 use Rattle.retry_rules.specs.Reply.{reply_of, damaged_reply_of}
 use Rattle.retry_rules.specs.Tick.{tick_of}
-use Rattle.retry_rules.proofs.Refusals.{offer-leaves, send-leaves}
+use Rattle.retry_rules.proofs.Refusals.{offer_leaves, send_leaves}
 use Rattle.host_rules.specs.Numbers.{mark_of, mark_number}
 use Rattle.host_rules.proofs.Numbers.{refused_called, done_called}
 use Rattle.host_retry_rules.specs.SenderBytes.{sender_in, sender_bytes}
@@ -60,10 +60,10 @@ module _ (old : Ticks) (a : Ticked) (e : a ≡ tick_of (sender_in old.sender)) w
   unfolding ticks
   tick_refused h = rw (← e) (refused_called _ _ _ h)
 
-  pub tick-done :
+  pub tick_done :
       a.refusal ≡ 0 → ticks old ≡ record { refusal = a.refusal; lent = record { sender = sender_bytes a.sender; fell = mark_number a.fell } }
   unfolding ticks
-  tick-done h = rw (← e) (done_called _ _ _ h)
+  tick_done h = rw (← e) (done_called _ _ _ h)
 
 module _ (channel bad : ℕ) (bytes : List ℕ) (old : Offers) (a : Offered) (e : a ≡ offer_of (sender_in old.sender)
     (length old.buffers) channel (mark_of bad) (length bytes)) where
@@ -83,15 +83,15 @@ module _ (channel bad : ℕ) (bytes : List ℕ) (old : Offers) (a : Offered) (e 
           buffers = out;
           number = old.number;
         };
-      }) (offer-leaves (sender_in old.sender)
+      }) (offer_leaves (sender_in old.sender)
       old.buffers channel (mark_of bad) bytes (λ z. h (ap (λ (x : Offered). x.refusal) e ∙ z)))))
 
-  pub offer-done :
+  pub offer_done :
       a.refusal ≡ 0
       → offers channel bad bytes old
       ≡ record { refusal = a.refusal; lent = record { sender = sender_bytes a.sender; buffers = stored; number = a.number } }
   unfolding offers
-  offer-done h = rw (← e) (done_called _ _ _ h)
+  offer_done h = rw (← e) (done_called _ _ _ h)
 
 module _ (buffers : List ℕ) (old : Sends) (a : Sent) (e : a ≡ send_of (sender_in old.sender) (length buffers) (length old.output)) where
   -- the output as the rule says, which on a refusal is as it stood
@@ -126,7 +126,7 @@ module _ (buffers : List ℕ) (old : Sends) (a : Sent) (e : a ≡ send_of (sende
           bad = old.bad;
           size = old.size;
         };
-      }) (send-leaves (sender_in old.sender) buffers old.output (λ z. h (ap (λ (x : Sent). x.refusal) e ∙ z)))))
+      }) (send_leaves (sender_in old.sender) buffers old.output (λ z. h (ap (λ (x : Sent). x.refusal) e ∙ z)))))
 
   pub send_done :
       a.refusal ≡ 0

@@ -24,13 +24,13 @@ module _ (s : Sender) where
       ∷ get_or s.slots.channels 4 0 ∷ get_or s.slots.channels 5 0 ∷ get_or s.slots.channels 6 0 ∷ get_or s.slots.channels 7 0
       ∷ mask ∷ []
 
-  pub as-found :
+  pub as_found :
       {x₀ x₁ x₂ x₃ x₄ x₅ x₆ x₇ mask : ℕ}
       → x₀ ≡ length 0 / 256 → x₁ ≡ length 1 / 256 → x₂ ≡ length 2 / 256 → x₃ ≡ length 3 / 256
       → x₄ ≡ length 4 / 256 → x₅ ≡ length 5 / 256 → x₆ ≡ length 6 / 256 → x₇ ≡ length 7 / 256
       → mask ≡ mask_of s.slots.bad → bytes_with x₀ x₁ x₂ x₃ x₄ x₅ x₆ x₇ mask ≡ sender_bytes s
   unfolding sender_bytes
-  as-found {x₀} {x₁} {x₂} {x₃} {x₄} {x₅} {x₆} {x₇} {mask} e₀ e₁ e₂ e₃ e₄ e₅ e₆ e₇ m =
+  as_found {x₀} {x₁} {x₂} {x₃} {x₄} {x₅} {x₆} {x₇} {mask} e₀ e₁ e₂ e₃ e₄ e₅ e₆ e₇ m =
       ap (λ (z : ℕ). bytes_with z x₁ x₂ x₃ x₄ x₅ x₆ x₇ mask) e₀
       ∙ ap (λ (z : ℕ). bytes_with (length 0 / 256) z x₂ x₃ x₄ x₅ x₆ x₇ mask) e₁
       ∙ ap (λ (z : ℕ). bytes_with (length 0 / 256) (length 1 / 256) z x₃ x₄ x₅ x₆ x₇ mask) e₂

@@ -31,6 +31,6 @@ module _ (bytes : List ℕ) (violation byte control : ℕ) where
       unfolding step_numbers number_checks
       step-no-byte h = simp (reader, le-ltb 2 violation small, ne_eqb violation 1 other, lt-ltb 255 byte h)
 
-      pub step-done : byte ≤ 255 → step_numbers bytes violation byte control ≡ step_of (reader_in bytes) (result_of violation byte control)
+      pub step_done : byte ≤ 255 → step_numbers bytes violation byte control ≡ step_of (reader_in bytes) (result_of violation byte control)
       unfolding step_numbers number_checks
-      step-done h = simp (reader, le-ltb 2 violation small, ne_eqb violation 1 other, le-ltb 255 byte h)
+      step_done h = simp (reader, le-ltb 2 violation small, ne_eqb violation 1 other, le-ltb 255 byte h)

@@ -32,10 +32,10 @@ data_passed c bytes bad d room q =
       ltb-false room (n + 6) (not-true (ltb room (n + 6)) (first_true (not (ltb room (n + 6))) _ four)),
     )
 
-pub priority-passed :
+pub priority_passed :
     (s c g : ℕ) (bytes : List ℕ) (bad : Bool) (d : ℤ) (room : ℕ) → refusal_of (packet_checks s (in_priority c g bytes bad) d room) ≡ 0
     → (is_disparity d ≡ true) × (c ≤ 15) × (g ≤ 15) × (length bytes + 6 ≤ room)
-priority-passed s c g bytes bad d room q =
+priority_passed s c g bytes bad d room q =
     let n = length bytes in
     let one = all_of (packet_checks s (in_priority c g bytes bad) d room) tt q in
     let two = second_true (not (not (is_disparity d))) _ one in

@@ -47,10 +47,10 @@ none_given (k ∷ ns) cs n p q m =
     (subst (λ (b : Bool). T (b || one_of n ns)) t m))
 
 -- no check applies where none of its numbers is given
-none-applies :
+none_applies :
     (cs : List Check) → ((n : ℕ) → T (one_of n order) → given n cs ≡ false) → T (numbered cs) → T (passed cs)
-none-applies [] f m = tt
-none-applies (c ∷ cs) f m =
+none_applies [] f m = tt
+none_applies (c ∷ cs) f m =
     let n = c.number in
     let own : given n cs || c.applies ≡ false =
     subst (λ (b : Bool). cond b (given n cs || c.applies) (given n cs) ≡ false) (eq-eqb n n refl)
@@ -58,11 +58,11 @@ none-applies (c ∷ cs) f m =
     let rest : (k : ℕ) → T (one_of k order) → given k cs ≡ false = λ k h.
     by_cases (λ (b : Bool). b ≡ false → given k cs ≡ false) (eqb k n) (λ t. or_left (given k cs) c.applies) (λ t e. e) (f k h) in
     and_both (not c.applies) (passed cs) (true_t (not c.applies) (ap not (or_right (given n cs) c.applies own)))
-    (none-applies cs rest (and_right (one_of n order) (numbered cs) m))
+    (none_applies cs rest (and_right (one_of n order) (numbered cs) m))
 
 -- a call that is not refused has passed each of its checks
 pub has_passed : (cs : List Check) → T (numbered cs) → refusal_of cs ≡ 0 → T (passed cs)
-has_passed cs m q = none-applies cs (λ n h. none_given order cs n tt q h) m
+has_passed cs m q = none_applies cs (λ n h. none_given order cs n tt q h) m
 
 -- a call that passes each is not refused
 not_given : (cs : List Check) (n : ℕ) → T (passed cs) → given n cs ≡ false
@@ -96,9 +96,9 @@ module _ {A : Type 0} (cs : List Check) where
       either_way (λ (a : A). number a ≡ refusal_of cs) f x (λ e. q ∙ sym e) (λ e. p (refusal_of cs))
 
   -- a refusal, told by its number, answers with what is made of it
-  pub leaves-answer :
+  pub leaves_answer :
       (number : A → ℕ) (f : ℕ → A) (x : A) → ((n : ℕ) → number (f n) ≡ n) → number x ≡ 0 → (number (outcome cs f x) ≡ 0 → ⊥)
       → outcome cs f x ≡ f (number (outcome cs f x))
-  leaves-answer number f x p q h =
+  leaves_answer number f x p q h =
       let e = number_is number f x p q in
       refused cs f x (λ z. h (e ∙ z)) ∙ ap f (sym e)

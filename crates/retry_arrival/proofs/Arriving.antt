@@ -19,8 +19,8 @@ use Rattle.retry_rules.specs.Refused.{refused_arrival}
 use Rattle.retry_rules.specs.Lent.{laid}
 use Rattle.retry_rules.specs.Arrival.{wanted, arrival_checks, undelivered, nack_of, delivery, answer_to, arrival_of, arrival_output}
 use Rattle.segment_size.proofs.Ranges.{size_range}
-use Rattle.retry_rules.proofs.Seen.{Arrives, arrival-seen}
-use Rattle.retry_rules.proofs.Done.{arrival-done, arrival-lays}
+use Rattle.retry_rules.proofs.Seen.{Arrives, arrival_seen}
+use Rattle.retry_rules.proofs.Done.{arrival_done, arrival_lays}
 use Rattle.retry_parts.proofs.Calls.{refuses}
 
 -- what is handed to the call
@@ -47,7 +47,7 @@ module _ (v : Arrival) where
       × (left ≡ arrival_output v.receiver v.number v.channel v.bytes v.room v.output)
 
   pub passed : (n : ℕ) → n ≡ refusal_of checks → n ≡ 0 → Passed
-  passed n is z = arrival-seen v.receiver v.number v.channel (length v.bytes) v.room (length v.output) (sym is ∙ z)
+  passed n is z = arrival_seen v.receiver v.number v.channel (length v.bytes) v.room (length v.output) (sym is ∙ z)
 
   pub refused_arrival_lem : (n : ℕ) (a : Arrived) → n ≡ refusal_of checks → (n ≡ 0 → ⊥) → a ≡ refused_arrival v.receiver n → Ruled a v.output
   unfolding arrival_of arrival_output
@@ -76,8 +76,8 @@ module _ (v : Arrival) where
         → a ≡ answer_to v.receiver v.number v.channel v.bad (length v.bytes) v.room
         → left ≡ cond (wanted v.receiver v.number v.room) (laid v.output 0 v.bytes) v.output → Ruled a left
     ruled a left e f = (
-      e ∙ sym (arrival-done v.receiver v.number v.channel v.bad (length v.bytes) v.room (length v.output) p),
-      f ∙ sym (arrival-lays v.receiver v.number v.channel v.bytes v.room v.output p),
+      e ∙ sym (arrival_done v.receiver v.number v.channel v.bad (length v.bytes) v.room (length v.output) p),
+      f ∙ sym (arrival_lays v.receiver v.number v.channel v.bytes v.room v.output p),
     )
 
     pub delivers :

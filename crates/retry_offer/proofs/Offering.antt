@@ -14,7 +14,7 @@ use Rattle.retry_rules.specs.Lent.{laid, buffer_at}
 use Rattle.retry_rules.specs.Offer.{offer_checks, free_slot, next_number, stored_in, offer_of, offer_buffers}
 use Rattle.segment_size.proofs.Ranges.{size_range}
 use Rattle.retry_rules.proofs.Seen.{Offers, offer_seen}
-use Rattle.retry_rules.proofs.Done.{offer-done, offer-lays}
+use Rattle.retry_rules.proofs.Done.{offer_done, offer_lays}
 use Rattle.retry_parts.proofs.Calls.{refuses}
 use Rattle.retry_slots.proofs.Below.{within}
 
@@ -60,6 +60,6 @@ module _ (v : Offer) where
         → a ≡ record { refusal = 0; number = next_number v.sender.counters; sender = stored_in v.sender v.channel v.bad (length v.bytes) }
         → left ≡ laid v.buffers (buffer_at v.sender (free_slot v.sender.counters)) v.bytes → Ruled a left
     stores a left e f = (
-      e ∙ sym (offer-done v.sender (length v.buffers) v.channel v.bad (length v.bytes) p),
-      f ∙ sym (offer-lays v.sender v.buffers v.channel v.bytes p),
+      e ∙ sym (offer_done v.sender (length v.buffers) v.channel v.bad (length v.bytes) p),
+      f ∙ sym (offer_lays v.sender v.buffers v.channel v.bytes p),
     )

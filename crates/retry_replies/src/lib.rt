@@ -1,4 +1,6 @@
 // What the sender makes of a reply, ACK or NACK with a number, and of a damaged one.
+#![tactic(auto)]
+
 ghost use Rattle.std.specs.Prelude.{◌≡◌, eqb, ◌<◌, ◌≤◌, ◌-◌};
 ghost use Rattle.refusal.specs.Order.{refusal_of};
 ghost use Rattle.retry_rules.specs.Reply.{to_oldest, restarted, one_released, acked, nacked, heard, reply_checks, with_counters, reply_of, damaged_reply_of};

@@ -20,19 +20,19 @@ use Rattle.retry_rules.specs.Reply.{heard, sender_checks, reply_checks, with_cou
 use Rattle.retry_rules.specs.Tick.{ticked, tick_of}
 use Rattle.retry_rules.specs.States.{is_down}
 use Rattle.retry_rules.specs.Arrival.{wanted, arrival_checks, answer_to, nack_of, arrival_of, arrival_output, receiver_checks, damaged_arrival_of}
-use Rattle.retry_rules.proofs.Seen.{Sound, sender_passes, Hears, reply_passes, Offers, offer_passes, Sends, send_passes, Arrives, arrival-passes, Begins, fresh_passes, reset_passes, size_passes, receiver_passes}
+use Rattle.retry_rules.proofs.Seen.{Sound, sender_passes, Hears, reply_passes, Offers, offer_passes, Sends, send_passes, Arrives, arrival_passes, Begins, fresh_passes, reset_passes, size_passes, receiver_passes}
 
-pub offer-done :
+pub offer_done :
     (s : Sender) (lent channel : ℕ) (bad : Bool) (n : ℕ) → Offers s lent channel n
     → offer_of s lent channel bad n ≡ record { refusal = 0; number = next_number s.counters; sender = stored_in s channel bad n }
 unfolding offer_of
-offer-done s lent channel bad n o = done (offer_checks s lent channel n) (refused_offer s) _ (offer_passes s lent channel n o)
+offer_done s lent channel bad n o = done (offer_checks s lent channel n) (refused_offer s) _ (offer_passes s lent channel n o)
 
-pub offer-lays :
+pub offer_lays :
     (s : Sender) (buffers : List ℕ) (channel : ℕ) (bytes : List ℕ) → Offers s (length buffers) channel (length bytes)
     → offer_buffers s buffers channel bytes ≡ laid buffers (buffer_at s (free_slot s.counters)) bytes
 unfolding offer_buffers
-offer-lays s buffers channel bytes o =
+offer_lays s buffers channel bytes o =
     done (offer_checks s (length buffers) channel (length bytes)) (λ _. buffers) _ (offer_passes s (length buffers) channel (length bytes) o)
 
 -- a send with something to send, and with nothing
@@ -42,18 +42,18 @@ send_done s lent output o t =
     done (send_checks s lent output) (refused_send s) _ (send_passes s lent output o)
     ∙ cond_true (to_send s.counters) (due_sent s) (nothing_sent s) t
 
-pub send-lays :
+pub send_lays :
     (s : Sender) (buffers output : List ℕ) → Sends s (length buffers) (length output) → to_send s.counters ≡ true
     → send_output s buffers output ≡ laid output 0 (held_bytes s buffers (due_slot s.counters))
 unfolding send_output
-send-lays s buffers output o t =
+send_lays s buffers output o t =
     done (send_checks s (length buffers) (length output)) (λ _. output) _ (send_passes s (length buffers) (length output) o)
     ∙ cond_true (to_send s.counters) (laid output 0 (held_bytes s buffers (due_slot s.counters))) output t
 
-pub send-nothing :
+pub send_nothing :
     (s : Sender) (lent output : ℕ) → Sends s lent output → to_send s.counters ≡ false → send_of s lent output ≡ nothing_sent s
 unfolding send_of
-send-nothing s lent output o t =
+send_nothing s lent output o t =
     done (send_checks s lent output) (refused_send s) _ (send_passes s lent output o)
     ∙ cond_false (to_send s.counters) (due_sent s) (nothing_sent s) t
 
@@ -67,11 +67,11 @@ pub damaged_reply_done : (s : Sender) → Sound s → damaged_reply_of s ≡ rec
 unfolding damaged_reply_of
 damaged_reply_done s h = done (sender_checks s) (refused_sender s) _ (sender_passes s h)
 
-pub tick-done :
+pub tick_done :
     (s : Sender) → Sound s
     → tick_of s ≡ record { refusal = 0; fell = is_down (ticked s.counters); sender = with_counters s (ticked s.counters) }
 unfolding tick_of
-tick-done s h = done (sender_checks s) (refused_tick s) _ (sender_passes s h)
+tick_done s h = done (sender_checks s) (refused_tick s) _ (sender_passes s h)
 
 pub reset_done :
     (given : Sender) (t s : ℕ) → sender_rule given ≡ true → Begins t s → reset_of given t s ≡ record { refusal = 0; sender = fresh_sender t s }
@@ -86,21 +86,21 @@ pub fresh_receiver_done : (s : ℕ) → size_allowed s ≡ true → fresh_receiv
 unfolding fresh_receiver_of
 fresh_receiver_done s q = done (size_checks s) (refused_receiver no_receiver) _ (size_passes s q)
 
-pub arrival-done :
+pub arrival_done :
     (r : Receiver) (k channel : ℕ) (bad : Bool) (n : ℕ) (room : Bool) (output : ℕ) → Arrives r k channel n room output
     → arrival_of r k channel bad n room output ≡ answer_to r k channel bad n room
 unfolding arrival_of
-arrival-done r k channel bad n room output a =
-    done (arrival_checks r k channel n room output) (refused_arrival r) _ (arrival-passes r k channel n room output a)
+arrival_done r k channel bad n room output a =
+    done (arrival_checks r k channel n room output) (refused_arrival r) _ (arrival_passes r k channel n room output a)
 
-pub arrival-lays :
+pub arrival_lays :
     (r : Receiver) (k channel : ℕ) (bytes : List ℕ) (room : Bool) (output : List ℕ)
     → Arrives r k channel (length bytes) room (length output)
     → arrival_output r k channel bytes room output ≡ cond (wanted r k room) (laid output 0 bytes) output
 unfolding arrival_output
-arrival-lays r k channel bytes room output a =
+arrival_lays r k channel bytes room output a =
     done (arrival_checks r k channel (length bytes) room (length output)) (λ _. output) _
-    (arrival-passes r k channel (length bytes) room (length output) a)
+    (arrival_passes r k channel (length bytes) room (length output) a)
 
 pub damaged_arrival_done : (r : Receiver) → receiver_rule r ≡ true → damaged_arrival_of r ≡ nack_of r
 unfolding damaged_arrival_of

@@ -22,7 +22,7 @@ use Rattle.retry_rules.specs.Arrival.{wanted, arrival_output}
 use Rattle.retry_rules.proofs.Laid.{laid_first, laid_same, laid_before, laid_after, buffers_apart}
 use Rattle.retry_rules.proofs.StoredSlots.{stored_slot}
 use Rattle.retry_rules.proofs.Seen.{Offers, Sends, Arrives}
-use Rattle.retry_rules.proofs.Done.{offer-done, offer-lays, send_done, send-lays, arrival-lays}
+use Rattle.retry_rules.proofs.Done.{offer_done, offer_lays, send_done, send_lays, arrival_lays}
 
 module _ (s : Sender) (buffers : List ℕ) (channel : ℕ) (bad : Bool) (bytes : List ℕ) (e : Eight s)
     (o : Offers s (length buffers) channel (length bytes)) where
@@ -47,12 +47,12 @@ module _ (s : Sender) (buffers : List ℕ) (channel : ℕ) (bad : Bool) (bytes :
       λ t. record { channel = p t; bad = q t; bytes = r t }
 
   -- a stored segment's buffer is not touched
-  pub keeps-stored :
+  pub keeps_stored :
       (i : ℕ) → i < s.counters.stored
       → held_content (stored_in s channel bad (length bytes)) (laid buffers (buffer_at s (free_slot s.counters)) bytes) (slot_of s.counters i)
       ≡ held_content s buffers (slot_of s.counters i)
   unfolding held_content held_bytes
-  keeps-stored i h =
+  keeps_stored i h =
       let free = free_slot s.counters in
       let j = slot_of s.counters i in
       let room = o.free in
@@ -78,51 +78,51 @@ module _ (s : Sender) (buffers : List ℕ) (channel : ℕ) (bad : Bool) (bytes :
       λ t. record { channel = p t; bad = q t; bytes = r t }
 
 -- the same of what an accepted offer answers and leaves in the lent run
-pub offer-holds :
+pub offer_holds :
     (s : Sender) (buffers : List ℕ) (channel : ℕ) (bad : Bool) (bytes : List ℕ) → Eight s
     → Offers s (length buffers) channel (length bytes)
     → let t = (offer_of s (length buffers) channel bad (length bytes)).sender in
     let run = offer_buffers s buffers channel bytes in
     (held_content t run (free_slot s.counters) ≡ record { channel = channel; bad = bad; bytes = bytes })
     × ((i : ℕ) → i < s.counters.stored → held_content t run (slot_of s.counters i) ≡ held_content s buffers (slot_of s.counters i))
-offer-holds s buffers channel bad bytes e o =
-    simp (offer-done s (length buffers) channel bad (length bytes) o, offer-lays s buffers channel bytes o)
-    (stores s buffers channel bad bytes e o, keeps-stored s buffers channel bad bytes e o)
+offer_holds s buffers channel bad bytes e o =
+    simp (offer_done s (length buffers) channel bad (length bytes) o, offer_lays s buffers channel bytes o)
+    (stores s buffers channel bad bytes e o, keeps_stored s buffers channel bad bytes e o)
 
 -- a stored segment's bytes are as many as its slot says
-pub held-length :
+pub held_length_lem :
     (s : Sender) (buffers : List ℕ) (i : ℕ) → length buffers ≡ 8 * s.counters.size → i < 8 → held_length s i ≤ s.counters.size
     → length (held_bytes s buffers i) ≡ held_length s i
 unfolding held_bytes
-held-length s buffers i run h most =
+held_length_lem s buffers i run h most =
     length-take-le (held_length s i) (drop (buffer_at s i) buffers)
     (simp length-drop (omega (arith, buffers_apart s.counters.size i 8 h)))
 
 -- what a send answers and leaves in the output is the content at the send point
-pub send-holds :
+pub send_holds :
     (s : Sender) (buffers output : List ℕ) → Sends s (length buffers) (length output) → to_send s.counters ≡ true
     → let a = send_of s (length buffers) (length output) in
     record { channel = a.channel; bad = a.bad; bytes = take a.length (send_output s buffers output) }
     ≡ held_content s buffers (due_slot s.counters)
 unfolding held_content
-send-holds s buffers output o t =
+send_holds s buffers output o t =
     let c = s.counters in
     let i = due_slot c in
     let held = stored_slot s c.point o.sound.slots (ltb-true c.point c.stored t) in
     let bytes = held_bytes s buffers i in
-    let size = held-length s buffers i o.buffers (omega arith) held.most in
+    let size = held_length_lem s buffers i o.buffers (omega arith) held.most in
     let front : take (held_length s i) (send_output s buffers output) ≡ bytes =
-    ap (take (held_length s i)) (send-lays s buffers output o t ∙ laid_first output bytes)
+    ap (take (held_length s i)) (send_lays s buffers output o t ∙ laid_first output bytes)
     ∙ take_at bytes (drop (length bytes) output) (held_length s i) size in
     simp (send_done s (length buffers) (length output) o t)
     (ap (λ (b : List ℕ). record { channel = get_or s.slots.channels i 0; bad = get_or s.slots.bad i false; bytes = b }) front)
 
 -- what is delivered is what came
-pub arrival-holds :
+pub arrival_holds :
     (r : Receiver) (k channel : ℕ) (bytes : List ℕ) (room : Bool) (output : List ℕ)
     → Arrives r k channel (length bytes) room (length output) → wanted r k room ≡ true
     → take (length bytes) (arrival_output r k channel bytes room output) ≡ bytes
-arrival-holds r k channel bytes room output a w =
+arrival_holds r k channel bytes room output a w =
     ap (take (length bytes))
-    (arrival-lays r k channel bytes room output a ∙ cond_true (wanted r k room) (laid output 0 bytes) output w ∙ laid_first output bytes)
+    (arrival_lays r k channel bytes room output a ∙ cond_true (wanted r k room) (laid output 0 bytes) output w ∙ laid_first output bytes)
     ∙ take_at bytes (drop (length bytes) output) (length bytes) refl

@@ -29,9 +29,9 @@ use Rattle.retry_rules.specs.Ledger.{Ledger, blank, waits_for_reply, oldest_numb
 use Rattle.refusal.proofs.Outcomes.{either_way}
 use Rattle.retry_rules.proofs.Rules.{Numbers}
 use Rattle.retry_rules.proofs.Seen.{sender_seen, reply_seen, send_seen, Begins}
-use Rattle.retry_rules.proofs.Kept.{offer-kept, send_kept, reply_kept, damaged_reply_kept, tick_kept, reset_kept, fresh-sender-kept, eight_after}
+use Rattle.retry_rules.proofs.Kept.{offer_kept, send_kept, reply_kept, damaged_reply_kept, tick_kept, reset_kept, fresh_sender_kept, eight_after}
 use Rattle.retry_rules.proofs.Done.{fresh_sender_done}
-use Rattle.retry_rules.proofs.Steps.{heard-cases, ticked-cases}
+use Rattle.retry_rules.proofs.Steps.{heard_cases, ticked_cases}
 
 -- the counters and the ledger
 pub record Agrees (c : Counters) (l : Ledger) : Type 0 where
@@ -64,10 +64,10 @@ not_last : (p g : ℕ) → p ≤ g → (p ≡ g → ⊥) → p < g
 not_last p g h q = omega arith
 
 -- a segment goes out; it is the first time if its number is the next
-sent-agrees :
+sent_agrees :
     (c : Counters) (l : Ledger) → Numbers c → c.point < c.stored → Agrees c l
     → Agrees (one_sent c) (cond (eqb (send_point c) (l.out % 16)) (one_out l) l)
-sent-agrees c l n h a =
+sent_agrees c l n h a =
     let le = n.point_le in
     let number : send_point c ≡ (l.released % 16 + c.point) % 16 = ap (λ (o : ℕ). (o + c.point) % 16) a.oldest in
     let next : l.out % 16 ≡ (l.released + c.outstanding) % 16 = ap (λ (o : ℕ). o % 16) a.outstanding in
@@ -97,14 +97,14 @@ module _ (d : Counters) (l : Ledger) (nack : Bool) (k : ℕ) (told : Told) where
   keeps_other p a =
       by_both (Agrees d) (waits_for_reply l) (eqb k (oldest_number l)) (λ _ t. absurd (false_is_not_true (sym p ∙ t))) (λ _. a) (λ _. a)
 
-heard-agrees :
+heard_agrees :
     (c : Counters) (l : Ledger) (nack : Bool) (k : ℕ) (told : Told) → Numbers c → Agrees c l
     → Agrees (heard c nack k) (entry l (reply nack k) told)
-heard-agrees c l nack k told n a =
+heard_agrees c l nack k told n a =
     let waits : 0 < c.outstanding → waits_for_reply l ≡ true = λ h. lt-ltb l.released l.out (omega (arith, a.outstanding)) in
     let oldest : k ≡ c.oldest → eqb k (oldest_number l) ≡ true = λ p. eq-eqb k (oldest_number l) (p ∙ a.oldest) in
     let other : (k ≡ c.oldest → ⊥) → eqb k (oldest_number l) ≡ false = λ p. ne_eqb k (oldest_number l) (λ q. p (q ∙ sym a.oldest)) in
-    heard-cases (λ d. Agrees d (entry l (reply nack k) told)) c nack k
+    heard_cases (λ d. Agrees d (entry l (reply nack k) told)) c nack k
     (λ z. keeps_idle c l nack k told (le-ltb l.released l.out (omega (arith, a.outstanding))) a)
     (λ some u p. clears (to_oldest (restarted c)) l nack k told (waits some) (oldest p)
     (subst (λ (b : Bool). Agrees (to_oldest (restarted c)) (timed 0 0 (cond b 0 1) l)) (sym u) (omega arith)))
@@ -118,16 +118,16 @@ module _ (d : Counters) (l : Ledger) (told : Told) where
   idle_tick : waits_for_reply l ≡ false → Agrees d l → Agrees d (entry l tick told)
   idle_tick p a = by_cases (Agrees d) (waits_for_reply l) (λ t. absurd (false_is_not_true (sym p ∙ t))) (λ _. a)
 
-  run-tick :
+  run_tick :
       waits_for_reply l ≡ true → (l.ticks + 1 ≡ l.columns → ⊥) → Agrees d (timed (l.ticks + 1) l.expiries 0 l) → Agrees d (entry l tick told)
-  run-tick p q a =
+  run_tick p q a =
       by_cases (Agrees d) (waits_for_reply l)
       (λ _. by_cases (Agrees d) (eqb (l.ticks + 1) l.columns) (λ t. absurd (q (eqb-true (l.ticks + 1) l.columns t))) (λ _. a))
       (λ t. absurd (false_is_not_true (sym t ∙ p)))
 
-  expiry-tick :
+  expiry_tick :
       waits_for_reply l ≡ true → l.ticks + 1 ≡ l.columns → Agrees d (timed 0 (l.expiries + 1) 0 l) → Agrees d (entry l tick told)
-  expiry-tick p q a =
+  expiry_tick p q a =
       by_cases (Agrees d) (waits_for_reply l)
       (λ _. by_cases (Agrees d) (eqb (l.ticks + 1) l.columns) (λ _. a) (λ t. absurd (eqb-false (l.ticks + 1) l.columns t q)))
       (λ t. absurd (false_is_not_true (sym t ∙ p)))
@@ -136,11 +136,11 @@ ticked_agrees : (c : Counters) (l : Ledger) (told : Told) → Numbers c → Agre
 ticked_agrees c l told n a =
     let waits : 0 < c.outstanding → waits_for_reply l ≡ true = λ h. lt-ltb l.released l.out (omega (arith, a.outstanding)) in
     let pos = n.timer_pos in
-    ticked-cases (λ d. Agrees d (entry l tick told)) c
+    ticked_cases (λ d. Agrees d (entry l tick told)) c
     (λ z. idle_tick c l told (le-ltb l.released l.out (omega (arith, a.outstanding))) a)
-    (λ some more. run-tick (timer_at (c.timer - 1) c.expiries c) l told (waits some) (λ q. more (omega (arith, a.timer))) (omega arith))
-    (λ some one few. expiry-tick (to_oldest (expired c)) l told (waits some) (omega (arith, a.timer)) (omega arith))
-    (λ some one two. expiry-tick (fallen (expired c)) l told (waits some) (omega (arith, a.timer)) (omega arith))
+    (λ some more. run_tick (timer_at (c.timer - 1) c.expiries c) l told (waits some) (λ q. more (omega (arith, a.timer))) (omega arith))
+    (λ some one few. expiry_tick (to_oldest (expired c)) l told (waits some) (omega (arith, a.timer)) (omega arith))
+    (λ some one two. expiry_tick (fallen (expired c)) l told (waits some) (omega (arith, a.timer)) (omega arith))
 
 -- a sender and a ledger of it
 pub record Honest (s : Sender) (l : Ledger) : Type 0 where
@@ -167,12 +167,12 @@ module _ (s : Sender) (l : Ledger) (h : Honest s l) where
       (λ p.
       let n = (send_seen s lent output p).sound.rule.numbers in
       by_cases P (to_send s.counters)
-      (λ t. sent-agrees s.counters l n (ltb-true s.counters.point s.counters.stored t) h.agrees) (λ _. h.agrees))
+      (λ t. sent_agrees s.counters l n (ltb-true s.counters.point s.counters.stored t) h.agrees) (λ _. h.agrees))
       (refused_same (send lent output) (only_refusal _))
   agrees_after (reply nack k) =
       either_way (reply_checks s k)
       (λ (a : Answered). Agrees a.sender.counters (entered l (reply nack k) (only_refusal a.refusal))) (refused_sender s) _
-      (λ p. heard-agrees s.counters l nack k (only_refusal 0) (reply_seen s k p).sound.rule.numbers h.agrees)
+      (λ p. heard_agrees s.counters l nack k (only_refusal 0) (reply_seen s k p).sound.rule.numbers h.agrees)
       (refused_same (reply nack k) (only_refusal _))
   agrees_after damaged_reply =
       either_way (sender_checks s)
@@ -198,7 +198,7 @@ module _ (s : Sender) (l : Ledger) (h : Honest s l) where
       (refused_same (reset t size) (only_refusal _))
 
   rule_after : (c : SenderCall) → sender_rule (sender_called s c) ≡ true
-  rule_after (offer lent channel bad n) = offer-kept s lent channel bad n h.eight h.rule
+  rule_after (offer lent channel bad n) = offer_kept s lent channel bad n h.eight h.rule
   rule_after (send lent output) = send_kept s lent output h.rule
   rule_after (reply nack k) = reply_kept s nack k h.rule
   rule_after damaged_reply = damaged_reply_kept s h.rule
@@ -209,12 +209,12 @@ module _ (s : Sender) (l : Ledger) (h : Honest s l) where
   honest_after c = record { rule = rule_after c; eight = eight_after s c h.eight; agrees = agrees_after c }
 
 -- all of a list, and from fresh
-pub honest-calls :
+pub honest_calls :
     (s : Sender) (l : Ledger) → Honest s l → (cs : List SenderCall) → Honest (sender_after our_sender s cs) (ledger_after our_sender s l cs)
 unfolding sender_after ledger_after
-honest-calls s l h [] = h
-honest-calls s l h (c ∷ cs) =
-    honest-calls (sender_called s c) (entered l c (sender_tells s c)) (honest_after s l h c) cs
+honest_calls s l h [] = h
+honest_calls s l h (c ∷ cs) =
+    honest_calls (sender_called s c) (entered l c (sender_tells s c)) (honest_after s l h c) cs
 
 pub honest_fresh : (t s : ℕ) → time_allowed t ≡ true → size_allowed s ≡ true → Honest (our_sender.fresh t s) (blank t s)
 honest_fresh t s p q =
@@ -223,7 +223,7 @@ honest_fresh t s p q =
       most = leb-true t 65535 (second_true (ltb 0 t) (leb t 65535) p);
       size = q;
     } in
-    let k = fresh-sender-kept t s (ap (λ a. a.refusal) (fresh_sender_done t s b)) in
+    let k = fresh_sender_kept t s (ap (λ a. a.refusal) (fresh_sender_done t s b)) in
     record {
       rule = k.1;
       eight = k.2;

@@ -30,8 +30,8 @@ use Rattle.retry_rules.specs.Arrival.{arrival_checks, advanced, answer_to, arriv
 use Rattle.retry_rules.specs.Calls.{SenderCall, offer, send, reply, damaged_reply, tick, reset, sender_called}
 use Rattle.refusal.proofs.Outcomes.{either_way}
 use Rattle.retry_rules.proofs.Rules.{counted, count_kept, Numbers, Holds, keeps}
-use Rattle.retry_rules.proofs.Steps.{heard-cases, ticked-cases}
-use Rattle.retry_rules.proofs.StoredSlots.{slots_kept, Later, later_kept, stored-kept}
+use Rattle.retry_rules.proofs.Steps.{heard_cases, ticked_cases}
+use Rattle.retry_rules.proofs.StoredSlots.{slots_kept, Later, later_kept, stored_kept}
 use Rattle.retry_rules.proofs.Seen.{Sound, sender_seen, reply_seen, Offers, offer_seen, send_seen, Begins, fresh_seen, reset_seen, size_seen}
 
 -- what the counters become keeps the rule of counters, and its stored segments are in the buffers where they were
@@ -62,7 +62,7 @@ heard_moves s nack k h =
     let u = h.up in
     let same : Moves s c = still s c h n refl refl refl in
     let back : Moves s (to_oldest c) = still s (to_oldest c) h (omega arith) refl refl refl in
-    heard-cases (Moves s) c nack k (λ _. same) (λ _ _ _. still s (to_oldest (restarted c)) h (omega arith) refl refl refl)
+    heard_cases (Moves s) c nack k (λ _. same) (λ _ _ _. still s (to_oldest (restarted c)) h (omega arith) refl refl refl)
     (λ _ _ _. back)
     (λ some _ _. record {
       rule = record { numbers = omega arith; size = h.rule.size };
@@ -76,7 +76,7 @@ ticked_moves s h =
     let c = s.counters in
     let n = h.rule.numbers in
     let u = h.up in
-    ticked-cases (Moves s) c (λ _. still s c h n refl refl refl) (λ some more. still s _ h (omega arith) refl refl refl)
+    ticked_cases (Moves s) c (λ _. still s c h n refl refl refl) (λ some more. still s _ h (omega arith) refl refl refl)
     (λ some one few. still s (to_oldest (expired c)) h (omega arith) refl refl refl)
     (λ some one two. still s (fallen (expired c)) h (omega arith) refl refl refl)
 
@@ -97,14 +97,14 @@ stored_rule s lent channel bad n e o =
     let free = o.free in
     both_true (counters_rule (one_stored c)) (slots_rule (stored_in s channel bad n))
     (keeps (one_stored c) (record { numbers = omega arith; size = h.rule.size }))
-    (stored-kept s channel bad n e o.some o.most o.channel_lt o.free h.slots)
+    (stored_kept s channel bad n e o.some o.most o.channel_lt o.free h.slots)
 
 -- the calls of the sender
-pub offer-kept :
+pub offer_kept :
     (s : Sender) (lent channel : ℕ) (bad : Bool) (n : ℕ) → Eight s → sender_rule s ≡ true
     → sender_rule (offer_of s lent channel bad n).sender ≡ true
 unfolding offer_of
-offer-kept s lent channel bad n e q =
+offer_kept s lent channel bad n e q =
     either_way (offer_checks s lent channel n) (λ (a : Offered). sender_rule a.sender ≡ true) (refused_offer s) _
     (λ p. stored_rule s lent channel bad n e (offer_seen s lent channel n p)) (λ _. q)
 
@@ -146,11 +146,11 @@ fresh_rule t s h =
     (keeps (fresh_sender t s).counters (record { numbers = omega (arith, h.some, h.most); size = h.size }))
     (slots_kept (fresh_sender t s) (λ i l. absurd (omega arith)))
 
-pub fresh-sender-kept :
+pub fresh_sender_kept :
     (t s : ℕ) → (fresh_sender_of t s).refusal ≡ 0
     → ((fresh_sender_of t s).sender ≡ fresh_sender t s) × (sender_rule (fresh_sender_of t s).sender ≡ true) × Eight (fresh_sender_of t s).sender
 unfolding fresh_sender_of
-fresh-sender-kept t s =
+fresh_sender_kept t s =
     either_way (fresh_checks t s)
     (λ (a : Answered). a.refusal ≡ 0 → (a.sender ≡ fresh_sender t s) × (sender_rule a.sender ≡ true) × Eight a.sender) (refused_sender no_sender) _
     (λ p _. (refl, fresh_rule t s (fresh_seen t s p), record { lengths = refl; channels = refl; bad = refl })) (λ p q. absurd (p q))
@@ -196,11 +196,11 @@ advanced_rule r q =
     both_true (size_allowed r.size) _ (first_true (size_allowed r.size) _ q)
     (count_kept (advanced r).expected (advanced r).received (omega arith))
 
-pub arrival-kept :
+pub arrival_kept :
     (r : Receiver) (k channel : ℕ) (bad : Bool) (n : ℕ) (room : Bool) (output : ℕ) → receiver_rule r ≡ true
     → receiver_rule (arrival_of r k channel bad n room output).receiver ≡ true
 unfolding arrival_of answer_to
-arrival-kept r k channel bad n room output q =
+arrival_kept r k channel bad n room output q =
     let P : Arrived → Type 0 = λ a. receiver_rule a.receiver ≡ true in
     either_way (arrival_checks r k channel n room output) P (refused_arrival r) _
     (λ _. by_cases P (eqb k r.expected) (λ _. by_cases P room (λ _. advanced_rule r q) (λ _. q))
@@ -211,9 +211,9 @@ pub damaged_arrival_kept : (r : Receiver) → receiver_rule r ≡ true → recei
 unfolding damaged_arrival_of
 damaged_arrival_kept r q = either_way (receiver_checks r) (λ (a : Arrived). receiver_rule a.receiver ≡ true) (refused_arrival r) _ (λ _. q) (λ _. q)
 
-pub fresh-receiver-kept :
+pub fresh_receiver_kept :
     (s : ℕ) → (fresh_receiver_of s).refusal ≡ 0 → ((fresh_receiver_of s).receiver ≡ fresh_receiver s) × (receiver_rule (fresh_receiver_of s).receiver ≡ true)
 unfolding fresh_receiver_of receiver_rule count_rule
-fresh-receiver-kept s =
+fresh_receiver_kept s =
     either_way (size_checks s) (λ (a : Begun). a.refusal ≡ 0 → (a.receiver ≡ fresh_receiver s) × (receiver_rule a.receiver ≡ true)) (refused_receiver no_receiver) _
     (λ p _. (refl, both_true (size_allowed s) (count_rule 0 0) (size_seen s p) refl)) (λ p q. absurd (p q))

@@ -63,9 +63,9 @@ five_full s lent channel n =
     })
     (λ _ q. absurd (omega arith))))))
 
-pub refused-five :
+pub refused_five :
     (s : Sender) (lent channel : ℕ) (bad : Bool) (n : ℕ) → ((offer_of s lent channel bad n).refusal ≡ 5) ↔ Full s lent channel n
-refused-five s lent channel bad n = (
+refused_five s lent channel bad n = (
   λ q. five_full s lent channel n (sym (offer_number s lent channel bad n) ∙ q),
   λ f. offer_number s lent channel bad n ∙ full_five s lent channel n f,
 )

@@ -20,7 +20,7 @@ use Rattle.retry_rules.specs.Ledger.{receiver_after, delivered_after}
 use Rattle.retry_rules.specs.History.{Recent, ByHistory, JudgesByHistory}
 use Rattle.refusal.proofs.Outcomes.{either_way}
 use Rattle.retry_rules.proofs.Rules.{count_kept}
-use Rattle.retry_rules.proofs.Seen.{arrival-seen, arrival-passes}
+use Rattle.retry_rules.proofs.Seen.{arrival_seen, arrival_passes}
 use Rattle.retry_rules.proofs.Refusals.{arrival_number}
 use Rattle.retry_rules.proofs.Done.{fresh_receiver_done, damaged_arrival_done}
 use Rattle.retry_rules.proofs.LastEight.{last_eight, recent_not_next}
@@ -41,11 +41,11 @@ delivered_rule s e r q d =
 abbrev Counts : ℕ → ℕ → Arrived → Type 0
 Counts s e a = Delivered s (cond a.delivered (e + 1) e) a.receiver
 
-after-answer :
+after_answer :
     (s e : ℕ) (r : Receiver) (k channel : ℕ) (bad : Bool) (n : ℕ) (room : Bool) → Delivered s e r
     → Counts s e (answer_to r k channel bad n room)
 unfolding answer_to
-after-answer s e r k channel bad n room d =
+after_answer s e r k channel bad n room d =
     let P = Counts s e in
     by_cases P (eqb k r.expected)
     (λ _. by_cases P room (λ _. record { size = d.size; expected = omega (arith, d.expected); received = omega (arith, d.received) })
@@ -57,25 +57,25 @@ pub after_call :
     → Counts s e (receiver_answer r c)
 unfolding arrival_of damaged_arrival_of
 after_call s e r (arrival k channel bad n room output) d =
-    either_way (arrival_checks r k channel n room output) (Counts s e) (refused_arrival r) _ (λ _. after-answer s e r k channel bad n room d) (λ _. d)
+    either_way (arrival_checks r k channel n room output) (Counts s e) (refused_arrival r) _ (λ _. after_answer s e r k channel bad n room d) (λ _. d)
 after_call s e r damaged_arrival d =
     either_way (receiver_checks r) (Counts s e) (refused_arrival r) _
     (λ _. d) (λ _. d)
 
 -- all of a list
-pub after-calls :
+pub after_calls :
     (s e : ℕ) (r : Receiver) (cs : List ReceiverCall) → Delivered s e r
     → Delivered s (delivered_after our_receiver r e cs) (receiver_after our_receiver r cs)
 unfolding delivered_after receiver_after
-after-calls s e r [] d = d
-after-calls s e r (c ∷ cs) d =
-    after-calls s (cond (receiver_answer r c).delivered (e + 1) e) (receiver_answer r c).receiver cs (after_call s e r c d)
+after_calls s e r [] d = d
+after_calls s e r (c ∷ cs) d =
+    after_calls s (cond (receiver_answer r c).delivered (e + 1) e) (receiver_answer r c).receiver cs (after_call s e r c d)
 
 from_fresh :
     (s : ℕ) → size_allowed s ≡ true → (cs : List ReceiverCall)
     → Delivered s (delivered_after our_receiver (our_receiver.fresh s) 0 cs) (receiver_after our_receiver (our_receiver.fresh s) cs)
 from_fresh s q cs =
-    after-calls s 0 (our_receiver.fresh s) cs
+    after_calls s 0 (our_receiver.fresh s) cs
     (subst (Delivered s 0) (sym (ap (λ a. a.receiver) (fresh_receiver_done s q))) (record { size = refl; expected = refl; received = refl }))
 
 judged :
@@ -132,12 +132,12 @@ receiver_judges =
           let d = from_fresh s q cs in
           either_way (arrival_checks r k channel n room output)
           (λ (a : Arrived). a.refusal ≡ 0 → ByHistory e k room (receiver_tells a)) (refused_arrival r) _
-          (λ p _. judged s e r k channel bad n room (arrival-seen r k channel n room output p).number_lt d)
+          (λ p _. judged s e r k channel bad n room (arrival_seen r k channel n room output p).number_lt d)
           (λ p z. absurd (p z));
       takes = λ s q cs k channel bad n room output h₁ h₂ h₃ h₄ h₅.
           let r = receiver_after our_receiver (our_receiver.fresh s) cs in
           let d = from_fresh s q cs in
-          arrival_number r k channel bad n room output ∙ arrival-passes r k channel n room output (record {
+          arrival_number r k channel bad n room output ∙ arrival_passes r k channel n room output (record {
             rule = delivered_rule s _ r q d;
             number_lt = h₁;
             channel_lt = h₂;

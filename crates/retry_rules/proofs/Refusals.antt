@@ -25,7 +25,7 @@ use Rattle.retry_rules.specs.Send.{to_send, send_checks, send_of, send_output}
 use Rattle.retry_rules.specs.Reply.{sender_checks, reply_checks, reply_of, damaged_reply_of}
 use Rattle.retry_rules.specs.Tick.{tick_of}
 use Rattle.retry_rules.specs.Arrival.{arrival_checks, answer_to, arrival_of, arrival_output, receiver_checks, damaged_arrival_of}
-use Rattle.refusal.proofs.Outcomes.{number_is, leaves-answer}
+use Rattle.refusal.proofs.Outcomes.{number_is, leaves_answer}
 
 -- the number that each call answers with is that of its checks
 module _ (s : Sender) where
@@ -85,45 +85,45 @@ module _ (s : Sender) where
       → offer_of s lent channel bad n ≡ refused_offer s (offer_of s lent channel bad n).refusal
   unfolding offer_of
   offer_refused lent channel bad n =
-      leaves-answer (offer_checks s lent channel n) (λ (a : Offered). a.refusal) (refused_offer s) _ (λ _. refl) refl
+      leaves_answer (offer_checks s lent channel n) (λ (a : Offered). a.refusal) (refused_offer s) _ (λ _. refl) refl
 
   pub send_refused : (lent output : ℕ) → ((send_of s lent output).refusal ≡ 0 → ⊥) → send_of s lent output ≡ refused_send s (send_of s lent output).refusal
   unfolding send_of
   send_refused lent output =
-      leaves-answer (send_checks s lent output) (λ (a : Sent). a.refusal) (refused_send s) _ (λ _. refl)
+      leaves_answer (send_checks s lent output) (λ (a : Sent). a.refusal) (refused_send s) _ (λ _. refl)
       (by_cases (λ (a : Sent). a.refusal ≡ 0) (to_send s.counters) (λ _. refl) (λ _. refl))
 
   pub reply_refused : (nack : Bool) (k : ℕ) → ((reply_of s nack k).refusal ≡ 0 → ⊥) → reply_of s nack k ≡ refused_sender s (reply_of s nack k).refusal
   unfolding reply_of
   reply_refused nack k =
-      leaves-answer (reply_checks s k) (λ (a : Answered). a.refusal) (refused_sender s) _ (λ _. refl) refl
+      leaves_answer (reply_checks s k) (λ (a : Answered). a.refusal) (refused_sender s) _ (λ _. refl) refl
 
   pub damaged_reply_refused : ((damaged_reply_of s).refusal ≡ 0 → ⊥) → damaged_reply_of s ≡ refused_sender s (damaged_reply_of s).refusal
   unfolding damaged_reply_of
   damaged_reply_refused =
-      leaves-answer (sender_checks s) (λ (a : Answered). a.refusal) (refused_sender s) _ (λ _. refl) refl
+      leaves_answer (sender_checks s) (λ (a : Answered). a.refusal) (refused_sender s) _ (λ _. refl) refl
 
   pub tick_refused : ((tick_of s).refusal ≡ 0 → ⊥) → tick_of s ≡ refused_tick s (tick_of s).refusal
   unfolding tick_of
   tick_refused =
-      leaves-answer (sender_checks s) (λ (a : Ticked). a.refusal) (refused_tick s) _ (λ _. refl) refl
+      leaves_answer (sender_checks s) (λ (a : Ticked). a.refusal) (refused_tick s) _ (λ _. refl) refl
 
   pub reset_refused : (t size : ℕ) → ((reset_of s t size).refusal ≡ 0 → ⊥) → reset_of s t size ≡ refused_sender s (reset_of s t size).refusal
   unfolding reset_of
   reset_refused t size =
-      leaves-answer (reset_checks s t size) (λ (a : Answered). a.refusal) (refused_sender s) _ (λ _. refl) refl
+      leaves_answer (reset_checks s t size) (λ (a : Answered). a.refusal) (refused_sender s) _ (λ _. refl) refl
 
 module _ (r : Receiver) where
   pub arrival_refused : (k channel : ℕ) (bad : Bool) (n : ℕ) (room : Bool) (output : ℕ) → ((arrival_of r k channel bad n room output).refusal ≡ 0 → ⊥)
       → arrival_of r k channel bad n room output ≡ refused_arrival r (arrival_of r k channel bad n room output).refusal
   unfolding arrival_of answer_to
   arrival_refused k channel bad n room output =
-      leaves-answer (arrival_checks r k channel n room output) (λ (a : Arrived). a.refusal) (refused_arrival r) _ (λ _. refl) (answered r k channel bad n room)
+      leaves_answer (arrival_checks r k channel n room output) (λ (a : Arrived). a.refusal) (refused_arrival r) _ (λ _. refl) (answered r k channel bad n room)
 
   pub damaged_arrival_refused : ((damaged_arrival_of r).refusal ≡ 0 → ⊥) → damaged_arrival_of r ≡ refused_arrival r (damaged_arrival_of r).refusal
   unfolding damaged_arrival_of
   damaged_arrival_refused =
-      leaves-answer (receiver_checks r) (λ (a : Arrived). a.refusal) (refused_arrival r) _ (λ _. refl) refl
+      leaves_answer (receiver_checks r) (λ (a : Arrived). a.refusal) (refused_arrival r) _ (λ _. refl) refl
 
 -- a fresh end that is refused is none
 pub fresh_sender_number : (t s : ℕ) → (fresh_sender_of t s).refusal ≡ refusal_of (fresh_checks t s)
@@ -134,7 +134,7 @@ fresh_sender_number t s =
 pub fresh_sender_refused : (t s : ℕ) → ((fresh_sender_of t s).refusal ≡ 0 → ⊥) → fresh_sender_of t s ≡ refused_sender no_sender (fresh_sender_of t s).refusal
 unfolding fresh_sender_of
 fresh_sender_refused t s =
-    leaves-answer (fresh_checks t s) (λ (a : Answered). a.refusal) (refused_sender no_sender) _ (λ _. refl) refl
+    leaves_answer (fresh_checks t s) (λ (a : Answered). a.refusal) (refused_sender no_sender) _ (λ _. refl) refl
 
 pub fresh_receiver_number : (s : ℕ) → (fresh_receiver_of s).refusal ≡ refusal_of (size_checks s)
 unfolding fresh_receiver_of
@@ -144,30 +144,30 @@ fresh_receiver_number s =
 pub fresh_receiver_refused : (s : ℕ) → ((fresh_receiver_of s).refusal ≡ 0 → ⊥) → fresh_receiver_of s ≡ refused_receiver no_receiver (fresh_receiver_of s).refusal
 unfolding fresh_receiver_of
 fresh_receiver_refused s =
-    leaves-answer (size_checks s) (λ (a : Begun). a.refusal) (refused_receiver no_receiver) _ (λ _. refl) refl
+    leaves_answer (size_checks s) (λ (a : Begun). a.refusal) (refused_receiver no_receiver) _ (λ _. refl) refl
 
 -- a refused call leaves what it was lent
-pub offer-leaves :
+pub offer_leaves :
     (s : Sender) (buffers : List ℕ) (channel : ℕ) (bad : Bool) (bytes : List ℕ)
     → ((offer_of s (length buffers) channel bad (length bytes)).refusal ≡ 0 → ⊥) → offer_buffers s buffers channel bytes ≡ buffers
 unfolding offer_buffers
-offer-leaves s buffers channel bad bytes h =
+offer_leaves s buffers channel bad bytes h =
     hands_back (offer_checks s (length buffers) channel (length bytes)) buffers _
     (λ e. h (offer_number s (length buffers) channel bad (length bytes) ∙ e))
 
-pub send-leaves :
+pub send_leaves :
     (s : Sender) (buffers output : List ℕ) → ((send_of s (length buffers) (length output)).refusal ≡ 0 → ⊥)
     → send_output s buffers output ≡ output
 unfolding send_output
-send-leaves s buffers output h =
+send_leaves s buffers output h =
     hands_back (send_checks s (length buffers) (length output)) output _
     (λ e. h (send_number s (length buffers) (length output) ∙ e))
 
-pub arrival-leaves :
+pub arrival_leaves :
     (r : Receiver) (k channel : ℕ) (bad : Bool) (bytes : List ℕ) (room : Bool) (output : List ℕ)
     → ((arrival_of r k channel bad (length bytes) room (length output)).refusal ≡ 0 → ⊥)
     → arrival_output r k channel bytes room output ≡ output
 unfolding arrival_output
-arrival-leaves r k channel bad bytes room output h =
+arrival_leaves r k channel bad bytes room output h =
     hands_back (arrival_checks r k channel (length bytes) room (length output)) output _
     (λ e. h (arrival_number r k channel bad (length bytes) room (length output) ∙ e))

@@ -193,11 +193,11 @@ pub record Arrives (r : Receiver) (k channel n : ℕ) (room : Bool) (output : �
   pub some : 0 < n
   pub long : wanted r k room ≡ true → n ≤ output
 
-pub arrival-seen :
+pub arrival_seen :
     (r : Receiver) (k channel n : ℕ) (room : Bool) (output : ℕ) → refusal_of (arrival_checks r k channel n room output) ≡ 0
     → Arrives r k channel n room output
 unfolding arrival_checks
-arrival-seen r k channel n room output q =
+arrival_seen r k channel n room output q =
     let a = peel (not (receiver_rule r)) _ (all_of (arrival_checks r k channel n room output) tt q) in
     let b = peel (not (ltb k 16)) _ a.1 in
     let d = peel (not (ltb channel 16)) _ b.1 in
@@ -213,11 +213,11 @@ arrival-seen r k channel n room output q =
       long = λ t. ltb-false output n (subst (λ (x : Bool). x && ltb output n ≡ false) t g.0);
     }
 
-pub arrival-passes :
+pub arrival_passes :
     (r : Receiver) (k channel n : ℕ) (room : Bool) (output : ℕ) → Arrives r k channel n room output
     → refusal_of (arrival_checks r k channel n room output) ≡ 0
 unfolding arrival_checks
-arrival-passes r k channel n room output o =
+arrival_passes r k channel n room output o =
     none_of (arrival_checks r k channel n room output)
     (fold (not (receiver_rule r)) _ (ap not o.rule)
     (fold (not (ltb k 16)) _ (ap not (lt-ltb k 16 o.number_lt))

@@ -27,21 +27,21 @@ use Rattle.retry_rules.specs.Calls.{SenderCall, offer, send, reply, damaged_repl
 use Rattle.retry_rules.specs.Ledger.{Ledger, blank, waits_for_reply, oldest_number, sender_after, ledger_after}
 use Rattle.retry_rules.specs.History.{Recent, Due, CountsExpiries, TakesOffers, HearsByHistory}
 use Rattle.refusal.proofs.Outcomes.{either_way}
-use Rattle.retry_rules.proofs.Steps.{heard-cases, ticked-cases}
+use Rattle.retry_rules.proofs.Steps.{heard_cases, ticked_cases}
 use Rattle.retry_rules.proofs.StoredSlots.{stored_slot}
 use Rattle.retry_rules.proofs.Seen.{Sound, sound, rule_holds, sender_seen, Sends}
 use Rattle.retry_rules.proofs.Kept.{reply_kept}
 use Rattle.retry_rules.proofs.Refusals.{offer_number, send_number, reply_number, damaged_reply_number, tick_number}
-use Rattle.retry_rules.proofs.Done.{offer-done, send_done, reply_done, tick-done}
+use Rattle.retry_rules.proofs.Done.{offer_done, send_done, reply_done, tick_done}
 use Rattle.retry_rules.proofs.OfferFull.{full_five}
 use Rattle.retry_rules.proofs.LastEight.{last_eight, recent_not_next}
-use Rattle.retry_rules.proofs.Honest.{Honest, wraps, honest-calls, honest_fresh}
+use Rattle.retry_rules.proofs.Honest.{Honest, wraps, honest_calls, honest_fresh}
 
 -- after any list of calls from fresh
 from_fresh :
     (t s : ℕ) → time_allowed t ≡ true → size_allowed s ≡ true → (cs : List SenderCall)
     → Honest (sender_after our_sender (our_sender.fresh t s) cs) (ledger_after our_sender (our_sender.fresh t s) (blank t s) cs)
-from_fresh t s p q cs = honest-calls (our_sender.fresh t s) (blank t s) (honest_fresh t s p q) cs
+from_fresh t s p q cs = honest_calls (our_sender.fresh t s) (blank t s) (honest_fresh t s p q) cs
 
 module _ (s : Sender) (l : Ledger) (h : Honest s l) where
   -- fewer than three expiries: the link is up. Three: it is down
@@ -69,7 +69,7 @@ module _ (s : Sender) (l : Ledger) (h : Honest s l) where
       let n = u.rule.numbers in
       let up = u.up in
       let still : is_down s.counters ≡ true → ⊥ = λ f. omega (arith, eqb-true s.counters.link 2 f) in
-      ticked-cases (λ (d : Counters). is_down d ≡ true → (l.expiries ≡ 2) × Due l) s.counters (λ _ f. absurd (still f))
+      ticked_cases (λ (d : Counters). is_down d ≡ true → (l.expiries ≡ 2) × Due l) s.counters (λ _ f. absurd (still f))
       (λ _ _ f. absurd (still f)) (λ _ _ _ f. absurd (still f))
       (λ some one two f.
       (omega (arith, h.agrees.expiries), (some_waits some, omega (arith, h.agrees.timer))))
@@ -78,7 +78,7 @@ module _ (s : Sender) (l : Ledger) (h : Honest s l) where
   then_falls two due =
       let some = waits_some due.0 in
       let last = due.1 in
-      ticked-cases (λ (d : Counters). is_down d ≡ true) s.counters (λ z. absurd (omega arith))
+      ticked_cases (λ (d : Counters). is_down d ≡ true) s.counters (λ z. absurd (omega arith))
       (λ _ more. absurd (more (omega (arith, h.agrees.timer))))
       (λ _ _ few. absurd (omega (arith, h.agrees.expiries))) (λ _ _ _. refl)
 
@@ -86,9 +86,9 @@ module _ (s : Sender) (l : Ledger) (h : Honest s l) where
   third_is = (
     λ p.
         let u = sender_seen s (sym (tick_number s) ∙ p.0) in
-        falls_then u (ap (λ (a : Ticked). a.fell) (sym (tick-done s u)) ∙ p.1),
+        falls_then u (ap (λ (a : Ticked). a.fell) (sym (tick_done s u)) ∙ p.1),
     λ p.
-        let d = tick-done s (is_sound (omega (arith, p.0))) in
+        let d = tick_done s (is_sound (omega (arith, p.0))) in
         (ap (λ (a : Ticked). a.refusal) d, ap (λ (a : Ticked). a.fell) d ∙ then_falls p.0 p.1),
   )
 
@@ -117,12 +117,12 @@ next_differs : (n : ℕ) → (n + 1) % 16 ≡ n → ⊥
 next_differs n e = omega arith
 
 -- offers
-offer-takes :
+offer_takes :
     (s : Sender) (l : Ledger) → Honest s l → (channel : ℕ) (bad : Bool) (n : ℕ) → l.expiries < 3 → channel < 16 → 0 < n → n ≤ l.size
     → (l.accepted < l.released + 8
     → ((sender_tells s (offer (8 * l.size) channel bad n)).refusal ≡ 0) × ((sender_tells s (offer (8 * l.size) channel bad n)).number ≡ l.accepted % 16))
     × (l.accepted ≡ l.released + 8 → (sender_tells s (offer (8 * l.size) channel bad n)).refusal ≡ 5)
-offer-takes s l h channel bad n few low some most =
+offer_takes s l h channel bad n few low some most =
     let a = h.agrees in
     let u = is_sound s l h few in
     let lent : 8 * l.size ≡ 8 * s.counters.size = omega (arith, a.size) in
@@ -131,7 +131,7 @@ offer-takes s l h channel bad n few low some most =
     ap (λ (m : ℕ). (m + s.counters.stored) % 16) a.oldest ∙ wraps l.released s.counters.stored
     ∙ ap (λ (m : ℕ). m % 16) (sym a.stored) in (
       λ free.
-          let done = offer-done s (8 * l.size) channel bad n (record {
+          let done = offer_done s (8 * l.size) channel bad n (record {
             sound = u;
             buffers = lent;
             channel_lt = low;
@@ -151,7 +151,7 @@ offer-takes s l h channel bad n few low some most =
     )
 
 pub takes_offers : TakesOffers our_sender
-takes_offers = record { takes = λ t s p q cs. offer-takes _ _ (from_fresh t s p q cs) }
+takes_offers = record { takes = λ t s p q cs. offer_takes _ _ (from_fresh t s p q cs) }
 
 -- what goes out is stored
 module _ (s : Sender) (l : Ledger) (h : Honest s l) where
@@ -182,7 +182,7 @@ module _ (s : Sender) (l : Ledger) (h : Honest s l) where
       rw (a.released, a.oldest) ((last_eight l.released k lt).1 r) in
       ap (λ (x : Answered). x.sender) (reply_done s false k (record { sound = u; number_lt = lt }))
       ∙ ap (with_counters s)
-      (heard-cases (λ (d : Counters). d ≡ s.counters) s.counters false k (λ _. refl)
+      (heard_cases (λ (d : Counters). d ≡ s.counters) s.counters false k (λ _. refl)
       (λ _ z _. absurd (false_is_not_true z)) (λ _ z _. absurd (false_is_not_true z))
       (λ _ _ p. absurd (not-oldest p)) (λ _ _ _ _. refl) (λ _ _ _ z. absurd (false_is_not_true (sym z ∙ among))))
 
@@ -192,28 +192,28 @@ module _ (s : Sender) (l : Ledger) (h : Honest s l) where
       (subst (λ (m : ℕ). among_last m s.counters.oldest k ≡ true) h.agrees.released z)
 
   -- any NACK, and any other ACK that is not of the oldest
-  point-back :
+  point_back :
       (nack : Bool) (k : ℕ) → waits_for_reply l ≡ true → k < 16
       → (nack ≡ true) ⊎ ((k ≡ oldest_number l → ⊥) × (Recent l.released k → ⊥))
       → (heard s.counters nack k ≡ to_oldest s.counters) ⊎ (heard s.counters nack k ≡ to_oldest (restarted s.counters))
-  point-back nack k w lt why =
+  point_back nack k w lt why =
       let a = h.agrees in
       let some = waits_some s l h w in
       let none : among_last s.counters.released s.counters.oldest k ≡ true → Recent l.released k = λ z.
       (last_eight l.released k lt).0 (by_history k z) in
       let ack : nack ≡ false → (k ≡ oldest_number l → ⊥) × (Recent l.released k → ⊥) = λ z.
       ⊎_elim (λ y. absurd (false_is_not_true (sym z ∙ y))) (λ y. y) why in
-      heard-cases
+      heard_cases
       (λ (d : Counters). (d ≡ to_oldest s.counters) ⊎ (d ≡ to_oldest (restarted s.counters))) s.counters nack k
       (λ z. absurd (omega arith)) (λ _ _ _. inr refl) (λ _ _ _. inl refl) (λ _ z p. absurd ((ack z).0 (p ∙ a.oldest)))
       (λ _ z _ y. absurd ((ack z).1 (none y))) (λ _ _ _ _. inl refl)
 
   -- the next to go is then the oldest
-  back-sends :
+  back_sends :
       (d : Counters) (output : ℕ) → Sound (with_counters s d) → d.point ≡ 0 → d.oldest ≡ s.counters.oldest → 0 < d.stored
       → d.size ≡ l.size → l.size ≤ output
       → sender_tells (with_counters s d) (send (8 * l.size) output) ≡ record { refusal = 0; sent = true; number = oldest_number l; fell = false }
-  back-sends d output u zero same some size long =
+  back_sends d output u zero same some size long =
       let x = with_counters s d in
       let t : to_send d ≡ true = lt-ltb d.point d.stored (omega arith) in
       let slot = stored_slot x d.point u.slots (omega arith) in
@@ -222,12 +222,12 @@ module _ (s : Sender) (l : Ledger) (h : Honest s l) where
       ap send_tells (send_done x (8 * l.size) output fits t)
       ∙ ap (λ (m : ℕ). record { refusal = 0; sent = true; number = m; fell = false }) number
 
-  goes-back-to :
+  goes_back_to :
       (nack : Bool) (k output : ℕ) → l.expiries < 3 → waits_for_reply l ≡ true → k < 16 → l.size ≤ output
       → (nack ≡ true) ⊎ ((k ≡ oldest_number l → ⊥) × (Recent l.released k → ⊥))
       → sender_tells (reply_of s nack k).sender (send (8 * l.size) output)
       ≡ record { refusal = 0; sent = true; number = oldest_number l; fell = false }
-  goes-back-to nack k output few w lt long why =
+  goes_back_to nack k output few w lt long why =
       let a = h.agrees in
       let u = is_sound s l h few in
       let n = u.rule.numbers in
@@ -241,9 +241,9 @@ module _ (s : Sender) (l : Ledger) (h : Honest s l) where
       let rule : sender_rule (with_counters s d) ≡ true = subst (λ (x : Sender). sender_rule x ≡ true) is (reply_kept s nack k h.rule) in
       let v = sound (with_counters s d) (ne_eqb d.link 2 (λ p. omega arith)) rule in
       ap (λ (x : Sender). sender_tells x (send (8 * l.size) output)) is
-      ∙ back-sends d output v zero same (omega arith) (size ∙ a.size) long in
+      ∙ back_sends d output v zero same (omega arith) (size ∙ a.size) long in
       ⊎_elim (λ e. next (to_oldest s.counters) e refl refl refl refl u.up)
-      (λ e. next (to_oldest (restarted s.counters)) e refl refl refl refl u.up) (point-back nack k w lt why)
+      (λ e. next (to_oldest (restarted s.counters)) e refl refl refl refl u.up) (point_back nack k w lt why)
 
 pub hears_by_history : HearsByHistory our_sender
 hears_by_history =
@@ -251,25 +251,25 @@ hears_by_history =
       sends-stored = λ t s p q cs. going _ _ (from_fresh t s p q cs);
       ignores = λ t s p q cs k lent output few w r.
           ap (λ (x : Sender). sender_tells x (send lent output)) (ignored _ _ (from_fresh t s p q cs) k few w r);
-      goes_back = λ t s p q cs. goes-back-to _ _ (from_fresh t s p q cs);
+      goes_back = λ t s p q cs. goes_back_to _ _ (from_fresh t s p q cs);
     }
 
 -- after o releases, with something outstanding and the send point past the oldest, an ACK is ignored exactly if it is of one of the last eight
 -- really released. (With the send point at the oldest, moving it there changes nothing either.)
-pub ignored-exactly :
+pub ignored_exactly :
     (t size : ℕ) → time_allowed t ≡ true → size_allowed size ≡ true → (cs : List SenderCall) (k : ℕ)
     → let s = sender_after our_sender (our_sender.fresh t size) cs in
     let l = ledger_after our_sender (our_sender.fresh t size) (blank t size) cs in
     l.expiries < 3 → waits_for_reply l ≡ true → 0 < s.counters.point → k < 16
     → ((reply_of s false k).sender ≡ s) ↔ Recent l.released k
-ignored-exactly t size p q cs k few w past lt =
+ignored_exactly t size p q cs k few w past lt =
     let s = sender_after our_sender (our_sender.fresh t size) cs in
     let l = ledger_after our_sender (our_sender.fresh t size) (blank t size) cs in
     let h = from_fresh t size p q cs in
     let some = waits_some s l h w in
     let done = ap (λ (x : Answered). x.sender.counters) (reply_done s false k (record { sound = is_sound s l h few; number_lt = lt })) in (
       λ e.
-          heard-cases (λ (d : Counters). d ≡ s.counters → Recent l.released k) s.counters false k (λ z _. absurd (omega arith))
+          heard_cases (λ (d : Counters). d ≡ s.counters → Recent l.released k) s.counters false k (λ z _. absurd (omega arith))
           (λ _ z _ _. absurd (false_is_not_true z)) (λ _ z _ _. absurd (false_is_not_true z))
           (λ _ _ _ y. absurd (next_differs s.counters.oldest (ap (λ (d : Counters). d.oldest) y)))
           (λ _ _ _ z _. (last_eight l.released k lt).0 (by_history s l h k z))

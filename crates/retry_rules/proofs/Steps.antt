@@ -14,7 +14,7 @@ use Rattle.retry_rules.specs.Tick.{expired, fallen, ticked}
 
 module _ (P : Counters → Type 0) (c : Counters) where
   -- nothing outstanding; NACK of the oldest, of another; ACK of the oldest, of one of the last eight released, of another
-  pub heard-cases :
+  pub heard_cases :
       (nack : Bool) (k : ℕ) → (c.outstanding ≡ 0 → P c)
       → (0 < c.outstanding → nack ≡ true → k ≡ c.oldest → P (to_oldest (restarted c)))
       → (0 < c.outstanding → nack ≡ true → (k ≡ c.oldest → ⊥) → P (to_oldest c))
@@ -23,7 +23,7 @@ module _ (P : Counters → Type 0) (c : Counters) where
       → (0 < c.outstanding → nack ≡ false → (k ≡ c.oldest → ⊥) → among_last c.released c.oldest k ≡ false → P (to_oldest c))
       → P (heard c nack k)
   unfolding heard acked nacked
-  heard-cases nack k idle nack-oldest nack-other ack-oldest ack-last ack-other =
+  heard_cases nack k idle nack-oldest nack-other ack-oldest ack-last ack-other =
       by_cases P (eqb c.outstanding 0) (λ t. idle (eqb-true c.outstanding 0 t))
       (λ t.
       let some : 0 < c.outstanding = omega (arith, eqb-false c.outstanding 0 t) in
@@ -35,14 +35,14 @@ module _ (P : Counters → Type 0) (c : Counters) where
       (ack-other some u (eqb-false k c.oldest e)))))
 
   -- nothing outstanding; the timer runs; expiry one or two; the third
-  pub ticked-cases :
+  pub ticked_cases :
       (c.outstanding ≡ 0 → P c)
       → (0 < c.outstanding → (c.timer ≡ 1 → ⊥) → P (timer_at (c.timer - 1) c.expiries c))
       → (0 < c.outstanding → c.timer ≡ 1 → c.expiries < 2 → P (to_oldest (expired c)))
       → (0 < c.outstanding → c.timer ≡ 1 → 2 ≤ c.expiries → P (fallen (expired c)))
       → P (ticked c)
   unfolding ticked
-  ticked-cases idle runs again third =
+  ticked_cases idle runs again third =
       by_cases P (eqb c.outstanding 0) (λ t. idle (eqb-true c.outstanding 0 t))
       (λ t.
       let some : 0 < c.outstanding = omega (arith, eqb-false c.outstanding 0 t) in

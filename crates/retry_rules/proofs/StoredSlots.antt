@@ -94,10 +94,10 @@ later_kept s d k l q =
 
 -- a segment that keeps the rule, stored in the free buffer
 module _ (s : Sender) (channel : ℕ) (bad : Bool) (n : ℕ) (e : Eight s) where
-  pub stored-kept :
+  pub stored_kept :
       0 < n → n ≤ s.counters.size → channel < 16 → s.counters.stored < 8 → slots_rule s ≡ true
       → slots_rule (stored_in s channel bad n) ≡ true
-  stored-kept h₁ h₂ h₃ h₄ q =
+  stored_kept h₁ h₂ h₃ h₄ q =
       slots_kept (stored_in s channel bad n)
       (λ i h.
       let free = free_slot s.counters in

@@ -16,7 +16,7 @@ use Rattle.retry_rules.specs.Send.{to_send, due_slot, send_checks, due_sent, not
 use Rattle.segment_size.proofs.Ranges.{size_range}
 use Rattle.retry_rules.proofs.StoredSlots.{Slot, stored_slot}
 use Rattle.retry_rules.proofs.Seen.{Sends, send_seen}
-use Rattle.retry_rules.proofs.Done.{send_done, send-lays, send-nothing}
+use Rattle.retry_rules.proofs.Done.{send_done, send_lays, send_nothing}
 use Rattle.refusal.proofs.Laws.{done}
 use Rattle.retry_rules.proofs.Seen.{send_passes}
 use Rattle.retry_parts.proofs.Calls.{refuses}
@@ -57,7 +57,7 @@ module _ (v : Send) where
     unfolding send_output
     sends_nothing a h e =
         let none : to_send v.sender.counters ≡ false = le-ltb v.sender.counters.point v.sender.counters.stored h in (
-          e ∙ sym (send-nothing v.sender (length v.buffers) (length v.output) p none),
+          e ∙ sym (send_nothing v.sender (length v.buffers) (length v.output) p none),
           sym (done checks (λ _. v.output) _ (send_passes v.sender (length v.buffers) (length v.output) p) ∙ simp none),
         )
 
@@ -99,5 +99,5 @@ module _ (v : Send) where
             e ∙ sym (send_done v.sender (length v.buffers) (length v.output) p some),
             f ∙ ap (λ (k : ℕ). laid v.output 0 (take k (drop from v.buffers))) same
                 ∙ ap (λ (k : ℕ). laid v.output 0 (take (held_length v.sender due) (drop k v.buffers))) at
-                ∙ sym (send-lays v.sender v.buffers v.output p some),
+                ∙ sym (send_lays v.sender v.buffers v.output p some),
           )

@@ -10,11 +10,11 @@ use Rattle.symbol.specs.Symbols.{twelve, is_twelve, data_symbol, control_symbol,
 use Rattle.symbol.specs.declared.Symbol.{Symbol}
 
 -- of the 256 of data and the twelve of control
-pub every-symbol :
+pub every_symbol :
     (f : Symbol → Bool) → T (every (λ b x. f (data_symbol b)) 0 (count_from 0 256)) → T (all_of (λ b. f (control_symbol b)) twelve)
     → (s : Symbol) → s.byte < 256 → T (is_symbol s) → T (f s)
 unfolding is_twelve
-every-symbol f t u s h i = go s.byte s.control h i
+every_symbol f t u s h i = go s.byte s.control h i
   where
     go : (b : ℕ) (control : Bool) → b < 256 → T (not control || is_twelve b) → T (f (record { byte = b; control = control }))
     go b false k v = at (λ n x. f (data_symbol n)) (count_from 0 256) t b k

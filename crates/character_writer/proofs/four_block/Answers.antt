@@ -3,7 +3,6 @@ use mathlib.Core.Path.{◌∙◌}
 use mathlib.Core.Bool.{true}
 use lib.Dec.{lit<}
 use Rattle.character_writer.proofs.Chosen.{four_control, four_other, four_at_minus, four_at_plus, four_else}
-use borrow.Author.Rules.{rules}
 use Rattle.character_writer.proofs.four_block.Goals as goal
 
 pub returns-then-control : goal.returns-then-control

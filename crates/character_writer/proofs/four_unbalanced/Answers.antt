@@ -1,6 +1,5 @@
 -- By the mask.
 use Rattle.character_writer.proofs.Balances.{four_mask}
-use borrow.Author.Rules.{rules}
 use Rattle.character_writer.proofs.four_unbalanced.Goals as goal
 
 pub returns : goal.returns

@@ -1,7 +1,6 @@
 -- The listed block, set at the disparity in force.
 use Rattle.character_writer.proofs.Chosen.{six_is}
 use native.Mathlib.Omega.{arith}
-use borrow.Author.Rules.{rules}
 use Rattle.character_writer.proofs.six_block.Goals as goal
 
 pub returns : goal.returns

@@ -1,8 +1,8 @@
 -- Each way out by the tests that led there; a block of the list has six bits.
-use lib.Dec.{ltb, ltb→lt, lit<}
+use lib.Dec.{ltb, ltb→lt}
 use Rattle.laws.proofs.Table.{at}
 use Rattle.character_rules.specs.Blocks.{six_blocks}
-use borrow.Author.Tests.{eq-eqb, ne_eqb}
+use borrow.Author.Tests.{ne_eqb}
 use borrow.Author.Rules.{rules}
 use Rattle.character_writer.proofs.six_listed.Goals as goal
 use Rattle.character_writer.proofs.six_listed.Goals.{then-control+else-x-eq28, else-control}

@@ -1,6 +1,5 @@
 -- By the mask.
 use Rattle.character_writer.proofs.Balances.{six_mask}
-use borrow.Author.Rules.{rules}
 use Rattle.character_writer.proofs.six_unbalanced.Goals as goal
 
 pub returns : goal.returns

@@ -3,13 +3,10 @@ use mathlib.Core.Bool.{not}
 use mathlib.Core.Path.{sym, ◌∙◌, ap}
 use lib.IntN.{ℤ}
 use mir.Facts.{to_z-of_z}
-use borrow.Author.Tests.{not-true, not-false}
-use Rattle.laws.proofs.Bools.{true_t}
 use Rattle.character_rules.specs.Blocks.{character, closing}
 use Rattle.character_rules.specs.Answers.{written}
 use Rattle.character_rules.proofs.Laws.{writing_1, writing_3, writing_done}
 use Rattle.disparity.proofs.Signed.{told_none, told_disparity}
-use borrow.Author.Rules.{rules}
 use Rattle.character_writer.proofs.write.Goals as goal
 
 pub returns-then-not-is_disparity : goal.returns-then-not-is_disparity
@@ -20,7 +17,7 @@ pub returns-then-not-is_writable : goal.returns-then-not-is_writable
 returns-then-not-is_writable c =
     sym (writing_3 c.args.symbol c.args.disparity
     (told_disparity _ c.args.disparity _ (to_z-of_z c.ranges.disparity) c.is_disparity.ensures (ap not c.if-not-is_disparity.false))
-    (sym c.is_writable.ensures ∙ not-true _ c.if-not-is_writable.true))
+    (sym c.is_writable.ensures ∙ c.if-not-is_writable.true))
 
 pub returns : goal.returns
 returns c =
@@ -28,4 +25,4 @@ returns c =
     ∙ ap (λ (z : ℤ). written (character c.args.symbol z) (closing c.args.symbol z)) (to_z-of_z c.ranges.disparity)
     ∙ sym (writing_done c.args.symbol c.args.disparity
     (told_disparity _ c.args.disparity _ (to_z-of_z c.ranges.disparity) c.is_disparity.ensures (ap not c.if-not-is_disparity.false))
-    (sym c.is_writable.ensures ∙ not-false _ c.if-not-is_writable.false))
+    (sym c.is_writable.ensures ∙ c.if-not-is_writable.false))

@@ -1,6 +1,5 @@
 -- The two blocks are those of the rules, at the disparities of the rules.
 use Rattle.character_writer.proofs.Chosen.{blocks_right}
-use borrow.Author.Rules.{rules}
 use Rattle.character_writer.proofs.write_blocks.Goals as goal
 
 pub returns : goal.returns

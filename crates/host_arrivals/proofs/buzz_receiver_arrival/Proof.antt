@@ -6,7 +6,7 @@ use Rattle.retry_rules.specs.declared.Receiver.{Receiver}
 use Rattle.retry_rules.specs.Arrival.{arrival_of, arrival_output}
 use Rattle.host_rules.specs.Numbers.{mark_of}
 use Rattle.host_calls.specs.ReceiverCalls.{Arrives}
-use Rattle.host_calls.proofs.ReceiverLaws.{arrival_refused, arrival-done}
+use Rattle.host_calls.proofs.ReceiverLaws.{arrival_refused, arrival_done}
 use borrow.Author.Rules.{rules}
 use Rattle.host_arrivals.proofs.buzz_receiver_arrival.Statement.{statement}
 use Rattle.host_arrivals.proofs.buzz_receiver_arrival.Tie as tie
@@ -98,7 +98,7 @@ returns-2 c =
     let output = c.before.before.before.before.before.before.before.before.before.before.before.before.arrival.ensures.1
     ∙ ap (λ (s : Receiver). arrival_output s a.number a.channel a.bytes.now (mark_of a.room) a.output.now) given in
     let done = c.before.before.before.before.before.before.before.before.if1.false in
-    rw (arrival-done a.number a.channel a.bad a.bytes.now a.room old _ h done) (
+    rw (arrival_done a.number a.channel a.bad a.bytes.now a.room old _ h done) (
       sym done,
       c.before.before.before.before.before.before.receiver-bytes.ensures,
       output,

@@ -3,7 +3,7 @@
 use mathlib.Core.Path.{refl, sym, ap, ◌∙◌}
 use Rattle.capture_rules.specs.Calls.{says}
 use Rattle.host_calls.specs.CaptureCalls.{Packs}
-use Rattle.host_calls.proofs.CaptureLaws.{pack_done, pack-refused}
+use Rattle.host_calls.proofs.CaptureLaws.{pack_done, pack_refused}
 use borrow.Author.Rules.{rules}
 use Rattle.host_captures.proofs.buzz_pack.Statement.{statement}
 use Rattle.host_captures.proofs.buzz_pack.Tie as tie
@@ -38,7 +38,7 @@ returns-2 c =
     let a = c.before.before.before.before.before.before.before.before.before.args in
     let old : Packs = record { capture = a.capture.now; bytes = a.bytes.now } in
     let h = sym (ap says c.before.answer2.given.1) ∙ c.before.before.before.before.before.pack.ensures.0 in
-    rw (pack-refused a.characters.now old _ h) (refl, c.before.before.before.before.before.pack.ensures.1, refl)
+    rw (pack_refused a.characters.now old _ h) (refl, c.before.before.before.before.before.pack.ensures.1, refl)
 
 pub buzz_pack_spec : {M : Type 1} → statement M
 buzz_pack_spec =

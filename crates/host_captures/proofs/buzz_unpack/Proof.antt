@@ -3,7 +3,7 @@
 use mathlib.Core.Path.{refl, sym, ap, ◌∙◌}
 use Rattle.capture_rules.specs.Calls.{says}
 use Rattle.host_calls.specs.CaptureCalls.{Unpacks}
-use Rattle.host_calls.proofs.CaptureLaws.{unpack_done, unpack-refused}
+use Rattle.host_calls.proofs.CaptureLaws.{unpack_done, unpack_refused}
 use borrow.Author.Rules.{rules}
 use Rattle.host_captures.proofs.buzz_unpack.Statement.{statement}
 use Rattle.host_captures.proofs.buzz_unpack.Tie as tie
@@ -38,7 +38,7 @@ returns-2 c =
     let a = c.before.before.before.before.before.before.before.before.before.args in
     let old : Unpacks = record { characters = a.characters.now; count = a.count.now } in
     let h = sym (ap says c.before.answer2.given.1) ∙ c.before.before.before.before.before.unpack.ensures.0 in
-    rw (unpack-refused a.capture.now old _ h) (refl, c.before.before.before.before.before.unpack.ensures.1, refl)
+    rw (unpack_refused a.capture.now old _ h) (refl, c.before.before.before.before.before.unpack.ensures.1, refl)
 
 pub buzz_unpack_spec : {M : Type 1} → statement M
 buzz_unpack_spec =

@@ -5,7 +5,7 @@ use Rattle.character_rules.specs.Answers.{reading_says}
 use Rattle.character_rules.specs.Reading.{reading}
 use Rattle.host_rules.proofs.Signed.{same}
 use Rattle.host_calls.specs.CharacterCalls.{Reads}
-use Rattle.host_calls.proofs.CharacterLaws.{read-clean, read-wrong, read-invalid, read_refused}
+use Rattle.host_calls.proofs.CharacterLaws.{read_clean, read_wrong, read_invalid, read_refused}
 use borrow.Author.Rules.{rules}
 use Rattle.host_characters.proofs.buzz_read_character.Statement.{statement}
 use Rattle.host_characters.proofs.buzz_read_character.Tie as tie
@@ -46,7 +46,7 @@ returns c =
     let old : Reads = record { disparity = a.disparity.now; violation = a.violation.now; byte = a.byte.now; control = a.control.now } in
     let h = sym (ap reading_says c.before.before.before.answer.given.1) ∙ c.before.before.before.before.before.read.ensures
     ∙ ap (reading a.character) (same a.disparity.now c.before.before.before.before.before.before.read-arg.given) in
-    rw (read-clean _ old _ _ h) (refl, same _ c.before.before.known-told.given.1.0.1, refl, refl, c.mark-number.ensures)
+    rw (read_clean _ old _ _ h) (refl, same _ c.before.before.known-told.given.1.0.1, refl, refl, c.mark-number.ensures)
 
 returns-2 : tie.Need-returns-2
 returns-2 c =
@@ -54,7 +54,7 @@ returns-2 c =
     let old : Reads = record { disparity = a.disparity.now; violation = a.violation.now; byte = a.byte.now; control = a.control.now } in
     let h = sym (ap reading_says c.before.before.before.answer2.given.1) ∙ c.before.before.before.before.before.read.ensures
     ∙ ap (reading a.character) (same a.disparity.now c.before.before.before.before.before.before.read-arg.given) in
-    rw (read-wrong _ old _ _ h) (refl, same _ c.before.before.known-told2.given.1.0.1, refl, refl, c.mark-number2.ensures)
+    rw (read_wrong _ old _ _ h) (refl, same _ c.before.before.known-told2.given.1.0.1, refl, refl, c.mark-number2.ensures)
 
 returns-3 : tie.Need-returns-3
 returns-3 c =
@@ -62,7 +62,7 @@ returns-3 c =
     let old : Reads = record { disparity = a.disparity.now; violation = a.violation.now; byte = a.byte.now; control = a.control.now } in
     let h = sym (ap reading_says c.before.answer3.given.1) ∙ c.before.before.before.read.ensures
     ∙ ap (reading a.character) (same a.disparity.now c.before.before.before.before.read-arg.given) in
-    rw (read-invalid _ old _ h) (refl, same _ c.known-told3.given.0.1, refl, refl, refl)
+    rw (read_invalid _ old _ h) (refl, same _ c.known-told3.given.0.1, refl, refl, refl)
 
 returns-4 : tie.Need-returns-4
 returns-4 c =

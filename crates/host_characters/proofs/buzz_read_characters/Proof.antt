@@ -7,7 +7,7 @@ use Rattle.character_rules.specs.Answers.{run_says}
 use Rattle.character_rules.specs.Results.{run_reading, run_output}
 use Rattle.host_rules.proofs.Signed.{same}
 use Rattle.host_calls.specs.CharacterCalls.{ReadsRun}
-use Rattle.host_calls.proofs.CharacterLaws.{run_done, run-refused}
+use Rattle.host_calls.proofs.CharacterLaws.{run_done, run_refused}
 use borrow.Author.Rules.{rules}
 use Rattle.host_characters.proofs.buzz_read_characters.Statement.{statement}
 use Rattle.host_characters.proofs.buzz_read_characters.Tie as tie
@@ -48,7 +48,7 @@ returns-2 c =
     let h = sym (ap run_says c.before.answer2.given.1) ∙ c.before.before.before.before.before.read-run.ensures.0
     ∙ ap (λ (d : ℤ). run_reading a.characters.now d (length a.results.now)) d in
     let results = c.before.before.before.before.before.read-run.ensures.1 ∙ ap (λ (d : ℤ). run_output a.characters.now d a.results.now) d in
-    rw (run-refused _ old _ h) (refl, refl, results)
+    rw (run_refused _ old _ h) (refl, refl, results)
 
 pub buzz_read_characters_spec : {M : Type 1} → statement M
 buzz_read_characters_spec =

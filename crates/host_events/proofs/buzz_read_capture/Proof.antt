@@ -5,7 +5,7 @@ use lib.IntN.{ℤ}
 use lib.ListN.{length}
 use Rattle.host_rules.proofs.Signed.{same}
 use Rattle.host_calls.specs.EventCalls.{capture_numbers, events_numbers, ReadsCapture}
-use Rattle.host_calls.proofs.EventLaws.{capture-refused, capture-done}
+use Rattle.host_calls.proofs.EventLaws.{capture_refused, capture_done}
 use borrow.Author.Rules.{rules}
 use Rattle.host_events.proofs.buzz_read_capture.Statement.{statement}
 use Rattle.host_events.proofs.buzz_read_capture.Tie as tie
@@ -27,7 +27,7 @@ returns c =
     let read = c.before.before.before.before.before.read.ensures in
     let h = read.0 ∙ ap (λ (z : ℤ). capture_numbers a.capture.now a.reader.now z (length a.events.now)) d in
     let events = read.1 ∙ ap (λ (z : ℤ). events_numbers a.capture.now a.reader.now z a.events.now) d in
-    rw (capture-refused a.capture.now old _ h c.before.if1.true) (refl, refl, refl, events, refl)
+    rw (capture_refused a.capture.now old _ h c.before.if1.true) (refl, refl, refl, events, refl)
 
 reader-bytes-requires : tie.Need-reader-bytes-requires
 reader-bytes-requires c κs = search rules
@@ -44,7 +44,7 @@ returns-2 c =
     let h = read.0 ∙ ap (λ (z : ℤ). capture_numbers a.capture.now a.reader.now z (length a.events.now)) d in
     let events = read.1 ∙ ap (λ (z : ℤ). events_numbers a.capture.now a.reader.now z a.events.now) d in
     let done = c.before.before.before.if1.false in
-    rw (capture-done a.capture.now old _ h done)
+    rw (capture_done a.capture.now old _ h done)
     (sym done, c.before.reader-bytes.ensures, same _ c.struct_told.given.1.1.0.1, events, refl)
 
 pub buzz_read_capture_spec : {M : Type 1} → statement M

@@ -6,7 +6,7 @@ use Rattle.retry_rules.specs.declared.Sender.{Sender}
 use Rattle.retry_rules.specs.Offer.{offer_of, offer_buffers}
 use Rattle.host_rules.specs.Numbers.{mark_of}
 use Rattle.host_calls.specs.SenderCalls.{Offers}
-use Rattle.host_calls.proofs.SenderLaws.{offer_refused, offer-done}
+use Rattle.host_calls.proofs.SenderLaws.{offer_refused, offer_done}
 use borrow.Author.Rules.{rules}
 use Rattle.host_offers.proofs.buzz_sender_offer.Statement.{statement}
 use Rattle.host_offers.proofs.buzz_sender_offer.Tie as tie
@@ -53,7 +53,7 @@ returns-2 c =
     let buffers = c.before.before.before.before.before.before.before.offer.ensures.1
     ∙ ap (λ (s : Sender). offer_buffers s a.buffers.now a.channel a.bytes.now) given in
     let done = c.before.before.before.if1.false in
-    rw (offer-done a.channel a.bad a.bytes.now old _ h done) (sym done, c.before.sender-bytes.ensures, buffers, refl)
+    rw (offer_done a.channel a.bad a.bytes.now old _ h done) (sym done, c.before.sender-bytes.ensures, buffers, refl)
 
 pub buzz_sender_offer_spec : {M : Type 1} → statement M
 buzz_sender_offer_spec =

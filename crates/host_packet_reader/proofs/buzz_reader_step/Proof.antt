@@ -2,7 +2,7 @@
 -- Assumes nothing.
 use mathlib.Core.Path.{refl, sym}
 use Rattle.host_calls.specs.PacketCalls.{Steps}
-use Rattle.host_calls.proofs.PacketLaws.{step_refused, step-done}
+use Rattle.host_calls.proofs.PacketLaws.{step_refused, step_done}
 use borrow.Author.Rules.{rules}
 use Rattle.host_packet_reader.proofs.buzz_reader_step.Statement.{statement}
 use Rattle.host_packet_reader.proofs.buzz_reader_step.Tie as tie
@@ -29,7 +29,7 @@ returns-2 c =
     let old : Steps = record { reader = a.reader.now; event = a.event.now; value = a.value.now; number = a.number.now } in
     let h = c.before.before.before.before.before.step.ensures in
     let done = c.before.before.if1.false in
-    rw (step-done a.violation a.byte a.control old _ h _ c.before.before.before.before.told.ensures done) (
+    rw (step_done a.violation a.byte a.control old _ h _ c.before.before.before.before.told.ensures done) (
       sym done,
       c.reader-bytes.ensures,
       refl,

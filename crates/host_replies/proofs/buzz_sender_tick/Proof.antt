@@ -3,7 +3,7 @@
 use mathlib.Core.Path.{refl, sym, ap, ◌∙◌}
 use Rattle.retry_rules.specs.Tick.{tick_of}
 use Rattle.host_calls.specs.SenderCalls.{Ticks}
-use Rattle.host_calls.proofs.SenderLaws.{tick_refused, tick-done}
+use Rattle.host_calls.proofs.SenderLaws.{tick_refused, tick_done}
 use borrow.Author.Rules.{rules}
 use Rattle.host_replies.proofs.buzz_sender_tick.Statement.{statement}
 use Rattle.host_replies.proofs.buzz_sender_tick.Tie as tie
@@ -35,7 +35,7 @@ returns-2 c =
     let a = c.before.before.before.before.before.before.before.before.args in
     let old : Ticks = record { sender = a.sender.now; fell = a.fell.now } in
     let h = c.before.before.before.before.before.tick.ensures ∙ ap tick_of c.before.before.before.before.before.before.sender-in.ensures in
-    rw (tick-done old _ h c.before.before.before.if1.false) (
+    rw (tick_done old _ h c.before.before.before.if1.false) (
       sym c.before.before.before.if1.false,
       c.before.sender-bytes.ensures,
       c.mark-number.ensures,

@@ -1,10 +1,10 @@
 -- Byte by byte.
-use Rattle.host_retry_bytes.proofs.Bytes.{as-found}
+use Rattle.host_retry_bytes.proofs.Bytes.{as_found}
 use Rattle.host_retry_bytes.proofs.sender_bytes.Goals as goal
 
 pub returns : goal.returns
 returns c =
-    as-found _
+    as_found _
     c.high.ensures
     c.high-2.ensures
     c.high-3.ensures

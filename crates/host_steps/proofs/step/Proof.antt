@@ -7,7 +7,7 @@ use Rattle.packet_rules.specs.declared.Reader.{Reader}
 use Rattle.character_rules.specs.Answers.{invalid}
 use Rattle.packet_rules.specs.Step.{refused_step, step_of}
 use Rattle.host_rules.specs.Stepping.{result_of}
-use Rattle.host_rules.proofs.Stepping.{step_no_reader, step_no_violation, step_invalid, step-no-byte, step-done}
+use Rattle.host_rules.proofs.Stepping.{step_no_reader, step_no_violation, step_invalid, step-no-byte, step_done}
 use borrow.Author.Rules.{rules}
 use Rattle.host_steps.proofs.step.Statement.{statement}
 use Rattle.host_steps.proofs.step.Tie as tie
@@ -72,7 +72,7 @@ returns-5 c =
     let a = c.before.before.before.before.before.before.before.before.args in
     c.step2.ensures ∙ ap (step_of c.before.before.before.before.before.before.before.reader-in.result) c.before.result-of.ensures
     ∙ ap (λ (r : Reader). step_of r (result_of a.violation a.byte a.control))
-    c.before.before.before.before.before.before.before.reader-in.ensures ∙ sym (step-done a.bytes a.violation a.byte
+    c.before.before.before.before.before.before.before.reader-in.ensures ∙ sym (step_done a.bytes a.violation a.byte
     a.control (sym c.before.before.before.before.before.before.is-reader.ensures
     ∙ not-false _ c.before.before.before.before.before.if1.false) c.before.before.before.before.if2.false
     c.before.before.before.if3.false c.before.before.if4.false)

@@ -13,7 +13,7 @@ use Rattle.refusal.specs.Order.{refusal_of}
 use Rattle.symbol.specs.Symbols.{is_twelve}
 use Rattle.character_rules.specs.Disparity.{is_disparity}
 use Rattle.packet_rules.specs.Packets.{in_priority, packet_checks, wrote}
-use Rattle.packet_writer.proofs.Passed.{priority-passed}
+use Rattle.packet_writer.proofs.Passed.{priority_passed}
 use Rattle.packet_writer.proofs.Outcome.{refused_with, priority_all}
 use Rattle.packet_writer.proofs.write_priority.Statement.{statement}
 use Rattle.packet_writer.proofs.write_priority.Tie as tie
@@ -40,7 +40,7 @@ mul-opening c =
     let z = to_z-of_z w32 d b.ranges.disparity in
     let e = c.before.priority-refusal.ensures ∙ ap (λ (x : ℤ). refusal_of (packet_checks a.size m x (length a.out.now))) z in
     let no : refusal_of (packet_checks a.size m d (length a.out.now)) ≡ 0 = sym e ∙ c.if1.false in
-    let ok = priority-passed a.size a.channel a.segment a.bytes.now a.bad d (length a.out.now) no in
+    let ok = priority_passed a.size a.channel a.segment a.bytes.now a.bad d (length a.out.now) no in
     omega (arith, ok.2)
 
 add-opening : tie.Need-overflow-add-opening
@@ -52,7 +52,7 @@ add-opening c =
     let z = to_z-of_z w32 d b.ranges.disparity in
     let e = c.before.priority-refusal.ensures ∙ ap (λ (x : ℤ). refusal_of (packet_checks a.size m x (length a.out.now))) z in
     let no : refusal_of (packet_checks a.size m d (length a.out.now)) ≡ 0 = sym e ∙ c.if1.false in
-    let ok = priority-passed a.size a.channel a.segment a.bytes.now a.bad d (length a.out.now) no in
+    let ok = priority_passed a.size a.channel a.segment a.bytes.now a.bad d (length a.out.now) no in
     omega (arith, ok.1, ok.2)
 
 cast-opening : tie.Need-overflow-cast-opening
@@ -68,7 +68,7 @@ put-packet-requires c κs =
     let z = to_z-of_z w32 d b.ranges.disparity in
     let e = c.before.before.priority-refusal.ensures ∙ ap (λ (x : ℤ). refusal_of (packet_checks a.size m x (length a.out.now))) z in
     let no : refusal_of (packet_checks a.size m d (length a.out.now)) ≡ 0 = sym e ∙ c.before.if1.false in
-    let ok = priority-passed a.size a.channel a.segment a.bytes.now a.bad d (length a.out.now) no in
+    let ok = priority_passed a.size a.channel a.segment a.bytes.now a.bad d (length a.out.now) no in
     (omega (arith, ok.3), tt, true_t _ (ap is_disparity z ∙ ok.0))
 
 same_length : tie.Need-same-length
@@ -84,7 +84,7 @@ returns-2 c =
     let e = c.before.before.before.before.before.before.priority-refusal.ensures
     ∙ ap (λ (x : ℤ). refusal_of (packet_checks a.size m x (length a.out.now))) z in
     let no : refusal_of (packet_checks a.size m d (length a.out.now)) ≡ 0 = sym e ∙ c.before.before.before.before.before.if1.false in
-    let ok = priority-passed a.size a.channel a.segment a.bytes.now a.bad d (length a.out.now) no in
+    let ok = priority_passed a.size a.channel a.segment a.bytes.now a.bad d (length a.out.now) no in
     let h : (16 * a.segment + a.channel) % 256 ≡ 16 * a.segment + a.channel = omega (arith, ok.1, ok.2) in
     let put = c.before.before.before.put-packet in
     let w = priority_all a.size a.channel a.segment a.bytes.now a.bad d a.out.now ((16 * a.segment + a.channel) % 256) h no

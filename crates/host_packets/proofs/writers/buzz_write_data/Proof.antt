@@ -6,7 +6,7 @@ use Rattle.packet_rules.specs.Packets.{in_data, written_says, packet_writing, pa
 use Rattle.host_rules.specs.Numbers.{mark_of}
 use Rattle.host_rules.proofs.Signed.{same}
 use Rattle.host_calls.specs.PacketCalls.{WritesPacket}
-use Rattle.host_calls.proofs.PacketLaws.{packet-done, packet-refused}
+use Rattle.host_calls.proofs.PacketLaws.{packet_done, packet_refused}
 use borrow.Author.Rules.{rules}
 use Rattle.host_packets.proofs.writers.buzz_write_data.Statement.{statement}
 use Rattle.host_packets.proofs.writers.buzz_write_data.Tie as tie
@@ -35,7 +35,7 @@ returns c =
     let h = sym (ap written_says c.before.answer.given.1) ∙ c.before.before.before.before.before.write-data.ensures.0
     ∙ ap (λ (d : ℤ). packet_writing 0 packet d a.characters.now) d in
     let characters = c.before.before.before.before.before.write-data.ensures.1 ∙ ap (λ (d : ℤ). packet_output 0 packet d a.characters.now) d in
-    rw (packet-done 0 packet old _ _ h) (refl, same _ c.known-told.given.1.0.1, characters, refl)
+    rw (packet_done 0 packet old _ _ h) (refl, same _ c.known-told.given.1.0.1, characters, refl)
 
 same-length-2 : tie.Need-same-length-2
 same-length-2 c = search rules
@@ -49,7 +49,7 @@ returns-2 c =
     let h = sym (ap written_says c.before.answer2.given.1) ∙ c.before.before.before.before.before.write-data.ensures.0
     ∙ ap (λ (d : ℤ). packet_writing 0 packet d a.characters.now) d in
     let characters = c.before.before.before.before.before.write-data.ensures.1 ∙ ap (λ (d : ℤ). packet_output 0 packet d a.characters.now) d in
-    rw (packet-refused 0 packet old _ h) (refl, refl, characters, refl)
+    rw (packet_refused 0 packet old _ h) (refl, refl, characters, refl)
 
 pub buzz_write_data_spec : {M : Type 1} → statement M
 buzz_write_data_spec =

@@ -6,7 +6,7 @@ use Rattle.packet_rules.specs.Packets.{in_priority, written_says, packet_writing
 use Rattle.host_rules.specs.Numbers.{mark_of}
 use Rattle.host_rules.proofs.Signed.{same}
 use Rattle.host_calls.specs.PacketCalls.{WritesPacket}
-use Rattle.host_calls.proofs.PacketLaws.{packet-done, packet-refused}
+use Rattle.host_calls.proofs.PacketLaws.{packet_done, packet_refused}
 use borrow.Author.Rules.{rules}
 use Rattle.host_packets.proofs.writers.buzz_write_priority.Statement.{statement}
 use Rattle.host_packets.proofs.writers.buzz_write_priority.Tie as tie
@@ -36,7 +36,7 @@ returns c =
     ∙ ap (λ (d : ℤ). packet_writing a.size packet d a.characters.now) d in
     let characters = c.before.before.before.before.before.write-priority.ensures.1
     ∙ ap (λ (d : ℤ). packet_output a.size packet d a.characters.now) d in
-    rw (packet-done a.size packet old _ _ h) (refl, same _ c.known-told.given.1.0.1, characters, refl)
+    rw (packet_done a.size packet old _ _ h) (refl, same _ c.known-told.given.1.0.1, characters, refl)
 
 same-length-2 : tie.Need-same-length-2
 same-length-2 c = search rules
@@ -51,7 +51,7 @@ returns-2 c =
     ∙ ap (λ (d : ℤ). packet_writing a.size packet d a.characters.now) d in
     let characters = c.before.before.before.before.before.write-priority.ensures.1
     ∙ ap (λ (d : ℤ). packet_output a.size packet d a.characters.now) d in
-    rw (packet-refused a.size packet old _ h) (refl, refl, characters, refl)
+    rw (packet_refused a.size packet old _ h) (refl, refl, characters, refl)
 
 pub buzz_write_priority_spec : {M : Type 1} → statement M
 buzz_write_priority_spec =
