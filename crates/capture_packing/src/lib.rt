@@ -1,4 +1,6 @@
 // Packing: ten-bit characters into bytes, most significant bit first.
+#![tactic(auto)]
+
 ghost use Rattle.std.specs.Prelude.{◌≡◌, true, ◌++◌, ◌≤◌, ◌<◌, length, get_or, drop};
 ghost use Rattle.laws.specs.Groups.{all_below};
 ghost use Rattle.capture_rules.specs.Capture.{byte_count, pack_of};

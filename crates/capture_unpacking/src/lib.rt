@@ -1,4 +1,6 @@
 // Unpacking: a capture's characters, four from five bytes.
+#![tactic(auto)]
+
 ghost use Rattle.std.specs.Prelude.{◌≡◌, ◌++◌, ◌+◌, ◌*◌, ◌/◌, ◌%◌, ◌^◌, ◌≤◌, length, take, drop, set};
 ghost use Rattle.capture_rules.specs.Capture.{character_count, characters_of};
 ghost use Rattle.capture_rules.specs.Calls.{says, unpack_says, unpack_leaves};

@@ -8,7 +8,7 @@ use native.Mathlib.Omega.{arith}
 use lib.ListN.{length, get_or}
 use Rattle.delivery_rules.specs.Ends.{Item, segment, damaged, Reply, Ends}
 use Rattle.delivery_rules.specs.Outside.{seen_reply}
-use Rattle.delivery_rules.specs.Model.{Event, send, arrive, hear, World, sent, arrived, arrives, told, hears, joined, step, run}
+use Rattle.delivery_rules.specs.Model.{Event, send, arrive, hear, World, arrived, arrives, told, hears, joined, step, run}
 use Rattle.delivery_rules.proofs.Calms.{hears_calm, arrives_calm, expired}
 use Rattle.delivery_rules.proofs.Ordered.{run_ordered, moment_ordered}
 use Rattle.delivery_rules.specs.Demand.{no_content, Moment, at, Empty, AllCalm, expire_once, Fits, SendsEach, Drill}

@@ -20,7 +20,7 @@ use Rattle.retry_rules.proofs.StoredSlots.{stored_slot}
 use Rattle.retry_rules.proofs.Seen.{send_passes, arrival_passes}
 use Rattle.delivery_rules.specs.Ends.{Item, segment, Reply, ack, Sending, Arriving}
 use Rattle.delivery_rules.specs.Outside.{Seen, seen_with, seen_reply}
-use Rattle.delivery_rules.specs.Model.{send, arrive, tick, World, sent, arrived, told, step}
+use Rattle.delivery_rules.specs.Model.{send, tick, World, sent, arrived, told, step}
 use Rattle.delivery_rules.specs.Demand.{no_content, Good, NoExpiry}
 use Rattle.delivery_rules.specs.Ours.{hearing, arriving, ours}
 use Rattle.delivery_rules.proofs.Round.{near_is, among, same_number}
@@ -29,7 +29,7 @@ use Rattle.delivery_rules.proofs.Sequence.{Sequence, then_one, in_order}
 use Rattle.retry_rules.proofs.Held.{held_length_lem}
 use Rattle.delivery_rules.proofs.Seeing.{own_ack}
 use Rattle.delivery_rules.proofs.Ticks.{tick_either}
-use Rattle.delivery_rules.proofs.Calls.{goes, send_either, arrive_either, ack_heard}
+use Rattle.delivery_rules.proofs.Calls.{send_either, arrive_either, ack_heard}
 use Rattle.delivery_rules.proofs.Invariant.{IsItem, IsAck, Inv, numbers, slots_rule_lem, up}
 use Rattle.delivery_rules.proofs.SenderSteps.{due_is}
 use Rattle.delivery_rules.proofs.Safety.{step_inv}

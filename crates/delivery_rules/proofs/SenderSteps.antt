@@ -22,7 +22,7 @@ use Rattle.retry_rules.proofs.Held.{stores, keeps_stored}
 use Rattle.retry_rules.proofs.Seen.{Offers}
 use Rattle.retry_rules.proofs.Kept.{offer_kept, eight_after, send_kept}
 use Rattle.delivery_rules.specs.Ends.{Item, segment, damaged, Offering, Sending}
-use Rattle.delivery_rules.specs.Outside.{is_next, outstanding, gone_with}
+use Rattle.delivery_rules.specs.Outside.{is_next, gone_with}
 use Rattle.delivery_rules.specs.Model.{World, offered, sent}
 use Rattle.delivery_rules.specs.Demand.{no_content, Good}
 use Rattle.delivery_rules.specs.Ours.{ours}

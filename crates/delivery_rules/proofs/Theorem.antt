@@ -8,7 +8,6 @@ use lib.ListN.{length}
 use Rattle.retry_rules.specs.declared.Sender.{Sender}
 use Rattle.retry_rules.specs.Lent.{Content}
 use Rattle.delivery_rules.specs.Ends.{Offering}
-use Rattle.delivery_rules.specs.Outside.{stored}
 use Rattle.delivery_rules.specs.Model.{offer, World, offered, step, run}
 use Rattle.delivery_rules.specs.Demand.{AllGood, at, Delivers}
 use Rattle.delivery_rules.specs.Ours.{ours}

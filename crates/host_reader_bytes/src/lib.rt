@@ -1,4 +1,6 @@
 // The packet reader's state as its 15 bytes, and whether bytes are those of a state.
+#![tactic(auto)]
+
 mod fits;
 mod parts;
 

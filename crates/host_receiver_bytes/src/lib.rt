@@ -1,4 +1,6 @@
 // The receiver's state in lent bytes: stored and loaded.
+#![tactic(auto)]
+
 ghost use Rattle.std.specs.Prelude.{◌≡◌};
 ghost use Rattle.host_retry_rules.specs.SenderBytes.{two};
 ghost use Rattle.host_retry_rules.specs.ReceiverBytes.{receiver_in, receiver_bytes};

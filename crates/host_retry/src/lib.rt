@@ -1,4 +1,6 @@
 // The sender's state loaded from lent bytes.
+#![tactic(auto)]
+
 ghost use Rattle.std.specs.Prelude.{◌≡◌};
 ghost use Rattle.host_retry_rules.specs.SenderBytes.{two, marks_of, counters_in, lengths_in, channels_in, sender_in};
 

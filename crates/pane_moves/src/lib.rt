@@ -1,4 +1,6 @@
 // A place in a capture, and the moves from it to the next and to the one before.
+#![tactic(auto)]
+
 ghost use Rattle.std.specs.Prelude.{◌≡◌};
 ghost use Rattle.capture_rules.specs.Calls.{says};
 ghost use Rattle.capture_rules.specs.Panes.{place_says, stayed, forward_from, back_from};

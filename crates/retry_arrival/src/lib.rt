@@ -1,4 +1,6 @@
 // The arrival of a valid segment: what it is answered with, and what is delivered.
+#![tactic(auto)]
+
 ghost use Rattle.std.specs.Prelude.{◌≡◌, length};
 ghost use Rattle.refusal.specs.Order.{refusal_of};
 ghost use Rattle.retry_rules.specs.Arrival.{wanted, arrival_checks, delivery, arrival_of, arrival_output};

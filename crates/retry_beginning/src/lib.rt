@@ -1,4 +1,6 @@
 // A fresh sender, and a sender that is reset.
+#![tactic(auto)]
+
 ghost use Rattle.std.specs.Prelude.{◌≡◌};
 ghost use Rattle.refusal.specs.Order.{refusal_of};
 ghost use Rattle.retry_rules.specs.Fresh.{sender_with, fresh_checks, fresh_sender_of, reset_checks, reset_of};

@@ -1,4 +1,6 @@
 // An offer: a segment is stored in one of the sender's eight buffers, one lent run of 8 times S bytes.
+#![tactic(auto)]
+
 ghost use Rattle.std.specs.Prelude.{◌≡◌, ◌<◌, length};
 ghost use Rattle.refusal.specs.Order.{refusal_of};
 ghost use Rattle.retry_rules.specs.Offer.{offer_checks, stored_in, offer_of, offer_buffers};

@@ -1,4 +1,6 @@
 // A send: the segment at the send point is taken out of the sender's eight buffers, one lent run of 8 times S bytes.
+#![tactic(auto)]
+
 ghost use Rattle.std.specs.Prelude.{◌≡◌, ◌<◌, max, length};
 ghost use Rattle.refusal.specs.Order.{refusal_of};
 ghost use Rattle.retry_rules.specs.Refused.{refused_send};

@@ -1,4 +1,6 @@
 // Which of the sender's eight buffers a segment is in, and where that one begins in the lent run of 8 times S bytes.
+#![tactic(auto)]
+
 ghost use Rattle.std.specs.Prelude.{◌≡◌, ◌*◌};
 ghost use Rattle.retry_rules.specs.States.{slot_of};
 

@@ -1,4 +1,6 @@
 // The sender's timer: one call of tick is one column.
+#![tactic(auto)]
+
 ghost use Rattle.std.specs.Prelude.{◌≡◌, ◌<◌};
 ghost use Rattle.retry_rules.specs.Tick.{expired, fallen, ticked, tick_of};
 

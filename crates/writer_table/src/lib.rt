@@ -1,4 +1,6 @@
 // The writer's table: for each data byte its characters at both disparities. specs/Entries.antt says how an entry holds them.
+#![tactic(auto)]
+
 pub const TABLE: [u32; 256] = [
     92996212, 103481812, 86704852, 51644187, 78316372, 43255451, 26477979, 7604107, 74122132,
     39061083, 22283611, 54789963, 13894875, 46401227, 29623755, 109773172, 105578932, 36963899,

@@ -1,6 +1,5 @@
 -- Each part from its bytes.
 use Rattle.host_rules.specs.ReaderBytes.{reader_in}
-use borrow.Author.Rules.{rules}
 use Rattle.host_reader.proofs.reader_in.Goals as goal
 
 pub returns : goal.returns
