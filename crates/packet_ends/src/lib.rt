@@ -1,4 +1,6 @@
 // How a packet ends at its second CRC byte.
+#![tactic(auto)]
+
 ghost use Rattle.std.specs.Prelude.{◌≡◌};
 ghost use Rattle.packet_rules.specs.Violations.{right_crc};
 ghost use Rattle.packet_ends.specs.Ends.{end_of};

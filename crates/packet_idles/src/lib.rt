@@ -1,4 +1,6 @@
 // A symbol after COM, and while dropping.
+#![tactic(auto)]
+
 ghost use Rattle.std.specs.Prelude.{◌≡◌};
 ghost use Rattle.packet_idles.specs.Idles.{idle_of, drop_of};
 

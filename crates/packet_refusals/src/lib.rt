@@ -1,4 +1,6 @@
 // Which number writing a packet is refused with, and 0 where it is not refused.
+#![tactic(auto)]
+
 ghost use Rattle.std.specs.Prelude.{◌≡◌, false};
 ghost use Rattle.refusal.specs.Order.{refusal_of};
 ghost use Rattle.packet_rules.specs.Packets.{in_data, in_priority, retry, packet_checks};

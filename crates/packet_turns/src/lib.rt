@@ -1,4 +1,6 @@
 // A symbol where no sequence is begun.
+#![tactic(auto)]
+
 ghost use Rattle.std.specs.Prelude.{◌≡◌};
 ghost use Rattle.packet_turns.specs.Turns.{byte_in, byte_in_data, end_in, may_start, free_of};
 

@@ -1,4 +1,6 @@
 // The service pane: a capture and a place in it. Each function over it takes it apart and leaves the work to one on the slice and the place.
+#![tactic(auto)]
+
 ghost use Rattle.std.specs.Prelude.{◌≡◌};
 ghost use Rattle.capture_rules.specs.Calls.{says, character_says};
 ghost use Rattle.capture_rules.specs.Panes.{place_says, forward_from, back_from};
@@ -15,21 +17,21 @@ pub struct Pane<'a> {
 
 // A pane at the capture's start.
 pub fn open<'a>(capture: &'a [u8]) -> Pane<'a>
-    ensures { (result.capture ≡ capture) × (result.place ≡ 0) }
+    ensures { (result.capture ≡ capture.entry) × (result.place ≡ 0) }
 {
     Pane { capture, place: 0 }
 }
 
 // Where the pane stands.
 pub fn place<'a>(pane: Pane<'a>) -> Answer
-    ensures { says result ≡ place_says pane.capture.now pane.place }
+    ensures { says result ≡ place_says pane.entry.capture.now pane.entry.place }
 {
     place_in(pane.capture, pane.place)
 }
 
 // The character that stands there.
 pub fn here<'a>(pane: Pane<'a>) -> Answer
-    ensures { says result ≡ character_says pane.capture.now pane.place }
+    ensures { says result ≡ character_says pane.entry.capture.now pane.entry.place }
 {
     character_at(pane.capture, pane.place)
 }

@@ -1,4 +1,6 @@
 // The reader's table as a run takes it: for each of 1,024 characters both packed results, whole: that at −1 in the lower half, that at +1 in the upper half.
+#![tactic(auto)]
+
 pub const TABLE: [u32; 1024] = [
     167772672, 167772672, 167772672, 167772672, 167772672, 167772672, 167772672, 167772672,
     167772672, 167772672, 167772672, 167772672, 167772672, 167772672, 167772672, 167772672,

@@ -1,4 +1,6 @@
 // The writer of runs: data bytes as characters, by a table that is taken once for the run.
+#![tactic(auto)]
+
 ghost use Rattle.std.specs.Prelude.{◌≡◌, ◌++◌, ◌<◌, ◌≤◌, eqb, length, drop};
 ghost use Rattle.symbol.specs.Symbols.{data_symbol};
 ghost use Rattle.character_rules.specs.Disparity.{disparity_of};

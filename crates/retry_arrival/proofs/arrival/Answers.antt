@@ -1,5 +1,4 @@
 -- Each way out is one of the rules' own.
-use borrow.Author.Rules.{rules}
 use mathlib.Core.Path.{sym, ◌∙◌}
 use native.Mathlib.Omega.{arith}
 use Rattle.retry_parts.proofs.Fitting.{laid_where}
@@ -29,10 +28,10 @@ overflow_cast-bytes c =
     let v : Arrival = record { receiver = c.args.receiver; number = c.args.number; channel = c.args.channel; bad = c.args.bad; bytes = c.args.bytes.now; room = c.args.room; output = c.args.output.now } in
     let p : Passed v = passed v _ c.arrival_refusal-refusal.ensures c.if-refusal-ne0.false in
     omega (
-  arith,
-  fits_length v
-      p,
-)
+      arith,
+      fits_length v
+          p,
+    )
 
 pub returns-then-room : goal.returns-then-room
 returns-then-room c =

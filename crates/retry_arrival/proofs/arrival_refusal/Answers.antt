@@ -1,7 +1,6 @@
 -- Each way out by the tests that led there: the first that applies gives its number.
 use mathlib.Core.Path.{sym, ◌∙◌}
-use borrow.Author.Rules.{rules}
-use borrow.Author.Tests.{eq-eqb, le-ltb, lt-ltb, ne_eqb, not-false, not-true}
+use borrow.Author.Tests.{eq-eqb, le-ltb, lt-ltb, ne_eqb}
 use Rattle.retry_rules.specs.Arrival.{arrival_checks}
 use mathlib.Core.Bool.{or-true}
 use Rattle.retry_arrival.proofs.arrival_refusal.Goals as goal
