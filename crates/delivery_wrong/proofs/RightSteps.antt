@@ -19,7 +19,7 @@ use Rattle.delivery_rules.specs.Model.{Event, offer, send, arrive, lose, damage,
 use Rattle.delivery_rules.specs.Demand.{no_content}
 use Rattle.delivery_rules.proofs.Lines.{Line, empty, weaken, lower, snoc, snoc_skip, lost, damaged_at, tail, first}
 use Rattle.delivery_rules.proofs.Round.{near_is, among_is}
-use Rattle.delivery_rules.proofs.Seeing.{not_second, stands}
+use Rattle.delivery_rules.proofs.Seeing.{not_second}
 use Rattle.delivery_rules.proofs.ArrivalSteps.{one_more}
 use Rattle.delivery_rules.proofs.Invariant.{IsItem, IsDamaged, IsAck, IsIdle}
 use Rattle.delivery_wrong.specs.Plain.{eight_of, PlainSender, PlainReceiver, fallen, plain_taken, plain_offer, plain_goes, plain_send, replied, plain_arrive, rule_choice, plain}

@@ -1,4 +1,6 @@
 // Whether a capture is read into events, or which refusal is given.
+#![tactic(auto)]
+
 ghost use Rattle.std.specs.Prelude.{◌≡◌};
 ghost use Rattle.refusal.specs.Order.{refusal_of};
 ghost use Rattle.events_rules.specs.Events.{capture_checks};

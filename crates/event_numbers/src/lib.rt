@@ -1,4 +1,6 @@
 // An event as a number: the event's own, the segment number and the value.
+#![tactic(auto)]
+
 ghost use Rattle.std.specs.Prelude.{◌≡◌, ◌+◌, ◌*◌, ◌<◌};
 ghost use Rattle.packet_rules.specs.Answers.{event_says};
 ghost use Rattle.events_rules.specs.Numbers.{mark_number, packed_event};

@@ -1,4 +1,6 @@
 // The packet reader: one character result in, one event out. The state goes in by value and comes back.
+#![tactic(auto)]
+
 ghost use Rattle.std.specs.Prelude.{◌≡◌};
 ghost use Rattle.character_rules.specs.Answers.{reading_says};
 ghost use Rattle.packet_rules.specs.Answers.{step_says, fresh_says};

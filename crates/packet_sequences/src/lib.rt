@@ -1,4 +1,6 @@
 // A symbol where a sequence is begun.
+#![tactic(auto)]
+
 ghost use Rattle.std.specs.Prelude.{◌≡◌};
 ghost use Rattle.packet_sequences.specs.Sequences.{lmp_of, due_of, seq_of};
 

@@ -1,4 +1,6 @@
 // The packet writer: one whole data packet, priority packet or retry LMP a call, as ten-bit characters into lent memory.
+#![tactic(auto)]
+
 ghost use Rattle.std.specs.Prelude.{◌≡◌, [], ◌∷◌, map, ◌+◌, ◌≤◌, ◌<◌, T, length};
 ghost use Rattle.laws.specs.Lists.{all_of};
 ghost use Rattle.symbol.specs.Symbols.{data_symbol};

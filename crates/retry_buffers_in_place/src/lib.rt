@@ -1,5 +1,7 @@
 // An offer and a send, which are lent bytes beside the host's one copy of the sender's counters: as in `retry_in_place`, the sender is taken out from behind
 // the reference, the call is made by value, and the sender is put back.
+#![tactic(auto)]
+
 ghost use Rattle.std.specs.Prelude.{◌≡◌, length};
 ghost use Rattle.retry_rules.specs.Offer.{offer_of, offer_buffers};
 ghost use Rattle.retry_rules.specs.Send.{send_of, send_output};

@@ -1,5 +1,7 @@
 // Document 01: "Each call alters the host's one copy of the sender's counters". Each function takes the sender out from behind the reference, makes the
 // call by value, and puts the sender back; it answers what is left of the answer.
+#![tactic(auto)]
+
 ghost use Rattle.std.specs.Prelude.{◌≡◌};
 ghost use Rattle.retry_rules.specs.Fresh.{reset_of};
 ghost use Rattle.retry_rules.specs.Reply.{reply_of};

@@ -1,4 +1,6 @@
 // The bulk reader: a run of characters looked up in a table that is taken once.
+#![tactic(auto)]
+
 ghost use Rattle.std.specs.Prelude.{◌≡◌, ◌++◌, ◌<◌, ◌≤◌, T, eqb, length, drop};
 ghost use Rattle.laws.specs.Lists.{all_of};
 ghost use Rattle.character_rules.specs.Disparity.{is_plus, disparity_of};

@@ -1,5 +1,4 @@
 -- Four symbols: SLP, the two bytes, and their exclusive-or.
--- Assumes nothing.
 use mathlib.Core.Path.{◌≡◌, ap, ap₂, sym, subst, ◌∙◌}
 use mathlib.Core.Bool.{true, ◌&&◌}
 use mathlib.Core.List.{List, [], ◌∷◌, map}
@@ -17,8 +16,7 @@ use Rattle.packet_rules.specs.Line.{SLP}
 use Rattle.packet_rules.proofs.Packets.{byte_can}
 use Rattle.packet_writer.specs.Writing.{symbol_of, lmp_symbols}
 use Rattle.packet_writer.proofs.Parts.{data_number}
-use Rattle.packet_writer.proofs.put_lmp.Statement.{statement}
-use Rattle.packet_writer.proofs.put_lmp.Tie as tie
+use Rattle.packet_writer.proofs.put_lmp.Goals as goal
 
 four : (t n : ℕ) → t < 256 → n < 256 → map symbol_of (0x1F7 ∷ t ∷ n ∷ bit_xor t n ∷ []) ≡ lmp_symbols t n
 four t n ht hn =
@@ -34,24 +32,12 @@ four_can t n ht hn =
     (and_both (can_write (data_symbol n)) (can_write (data_symbol x) && true) (byte_can n hn)
     (and_both (can_write (data_symbol x)) true (byte_can x (xor_lt 8 t n ht hn)) tt))
 
-slice-aggregate-put-symbols : tie.Need-slice-aggregate-put-symbols
-slice-aggregate-put-symbols c = search rules
+pub put_symbols-requires : goal.put_symbols-requires
+put_symbols-requires c =
+    let t = c.args.t in
+    let n = c.args.n in
+    (c.requires.0, subst (λ (l : List Symbol). T (all_of can_write l)) (sym (four t n (omega arith) (omega arith))) (four_can t n (omega arith) (omega arith)), c.requires.1)
 
-put-symbols-requires : tie.Need-put-symbols-requires
-put-symbols-requires c κs =
-    let b = c.before.before.before in
-    let t = b.args.t in
-    let n = b.args.n in
-    (b.requires.0, subst (λ (l : List Symbol). T (all_of can_write l)) (sym (four t n (omega arith) (omega arith))) (four_can t n (omega arith) (omega arith)), b.requires.1)
-
-same_length : tie.Need-same-length
-same_length c = search rules
-
-returns : tie.Need-returns
+pub returns : goal.returns
 returns c =
-    let b = c.before.before.before.before.before.before in
-    rw (four b.args.t b.args.n (omega arith) (omega arith)) at c.before.before.put-symbols.ensures
-
-pub put_lmp_spec : {M : Type 1} → statement M
-put_lmp_spec =
-    tie.close (tie.spec slice-aggregate-put-symbols put-symbols-requires same_length returns)
+    rw (four c.args.t c.args.n (omega arith) (omega arith)) at c.put_symbols.ensures
