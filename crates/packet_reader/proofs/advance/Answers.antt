@@ -9,7 +9,7 @@ returns-in-Known c =
     simp (
       c.clean.ensures,
       c.in-Known.is,
-      c.result.given.1,
+      c.in-Clean.is,
       ← c.classify-c.ensures,
     )
 
@@ -19,7 +19,7 @@ returns-in-Unknown c =
     simp (
       c.refused.ensures,
       c.in-Unknown.is,
-      c.result.given.1,
+      c.in-Clean.is,
       ← c.classify-c.ensures,
     )
 
@@ -29,7 +29,7 @@ returns-in-Known-c c =
     simp (
       c.spoiled.ensures,
       c.in-Known-c.is,
-      c.result2.given.1,
+      c.in-WrongDisparity.is,
       ← c.classify-c-in-WrongDisparity.ensures,
     )
 
@@ -39,7 +39,7 @@ returns-in-Unknown-c c =
     simp (
       c.refused-in-Unknown-c.ensures,
       c.in-Unknown-c.is,
-      c.result2.given.1,
+      c.in-WrongDisparity.is,
       ← c.classify-c-in-WrongDisparity.ensures,
     )
 
