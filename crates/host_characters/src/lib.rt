@@ -1,4 +1,6 @@
 // What C calls to write and read characters.
+#![tactic(auto)]
+
 ghost use Rattle.std.specs.Prelude.{◌≡◌};
 ghost use Rattle.host_calls.specs.CharacterCalls.{writes, Reads, reads, reads_run};
 

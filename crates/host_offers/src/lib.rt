@@ -1,4 +1,6 @@
 // What C calls to store a segment and to send one: the eight buffers are one lent run of 8 times S bytes.
+#![tactic(auto)]
+
 ghost use Rattle.std.specs.Prelude.{◌≡◌};
 ghost use Rattle.host_calls.specs.SenderCalls.{Offers, offers, Sends, sends};
 

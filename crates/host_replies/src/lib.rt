@@ -1,4 +1,6 @@
 // What C calls of the sending end of the retry when a reply or a column of time comes, its state in 38 lent bytes.
+#![tactic(auto)]
+
 ghost use Rattle.std.specs.Prelude.{◌≡◌};
 ghost use Rattle.host_calls.specs.SenderCalls.{hears, hears_damaged, ticks};
 

@@ -2,7 +2,7 @@
 -- Assumes nothing.
 use mathlib.Core.Path.{◌≡◌, refl, sym, ap, ◌∙◌}
 use mathlib.Core.Bool.{Bool, true, false}
-use Prim.Native.Nat.{ℕ, ◌-◌}
+use Prim.Native.Nat.{ℕ}
 use borrow.Author.Tests.{eqb-true, ltb-true}
 use lib.Bits.{bit_xor}
 use lib.Dec.{eqb, ltb, leb}

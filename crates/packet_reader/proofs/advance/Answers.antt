@@ -1,5 +1,4 @@
 -- By the character result, and whether its symbol is one.
-use borrow.Author.Rules.{rules}
 use Rattle.packet_reader.specs.Classes.{advance_of}
 use Rattle.packet_reader.proofs.advance.Goals as goal
 

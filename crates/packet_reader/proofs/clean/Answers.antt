@@ -1,5 +1,4 @@
 -- By the phase.
-use borrow.Author.Rules.{rules}
 use Rattle.packet_reader.specs.Classes.{clean_of}
 use Rattle.packet_reader.proofs.clean.Goals as goal
 

@@ -3,7 +3,6 @@ use mathlib.Core.Path.{◌≡◌, sym, ◌∙◌}
 use mathlib.Core.Bool.{true}
 use Prim.Native.Nat.{◌%◌}
 use native.Mathlib.Omega.{arith}
-use borrow.Author.Rules.{rules}
 use Rattle.packet_rules.specs.State.{fresh_reader}
 use Rattle.segment_size.specs.Sizes.{size_allowed}
 use Rattle.segment_size.proofs.Ranges.{size_range}

@@ -1,6 +1,5 @@
 -- By the test of the rule; then the code's way through the step is what the rules say.
 use mathlib.Core.Path.{sym, ap, ◌∙◌}
-use borrow.Author.Rules.{rules}
 use Rattle.packet_rules.specs.Answers.{step_says}
 use Rattle.packet_reader.proofs.Agree.{agree, ill_formed}
 use Rattle.packet_reader.proofs.step.Goals as goal

@@ -1,10 +1,10 @@
 -- The character writer can write the symbol, so it did; its character stands at the place.
-use mathlib.Core.Path.{◌≡◌, refl, ap, sym, ◌∙◌}
+use mathlib.Core.Path.{◌≡◌, refl, ap, ◌∙◌}
 use lib.ListN.{set}
 use mir.Syntax.{w32}
 use mir.ValLaws.{to_z-of_z}
 use borrow.Author.Rules.{rules}
-use Rattle.character_rules.specs.Answers.{written, not_written, writing_says}
+use Rattle.character_rules.specs.Answers.{written, not_written}
 use Rattle.character_rules.specs.Writing.{writing}
 use Rattle.packet_writer.proofs.Laws.{wrote_one, wrote_character, wrote_closing, not_refused}
 use Rattle.packet_writer.proofs.put.Goals as goal

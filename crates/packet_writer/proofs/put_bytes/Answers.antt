@@ -1,10 +1,10 @@
 -- The run was written, since the part is long enough; what came back is the part's own.
-use mathlib.Core.Path.{◌≡◌, refl, ap, sym, ◌∙◌}
+use mathlib.Core.Path.{◌≡◌, refl, ap, ◌∙◌}
 use lib.ListN.{length}
 use mir.Syntax.{w32}
 use mir.ValLaws.{to_z-of_z}
 use borrow.Author.Rules.{rules}
-use Rattle.character_rules.specs.Answers.{run_written, not_run_written, run_written_says}
+use Rattle.character_rules.specs.Answers.{run_written, not_run_written}
 use Rattle.character_rules.specs.Writing.{run_writing, run_stored}
 use Rattle.packet_writer.proofs.Bytes.{part, run_closing_is, run_wrote, run_not_refused}
 use Rattle.packet_writer.proofs.put_bytes.Goals as goal

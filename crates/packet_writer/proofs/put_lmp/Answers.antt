@@ -4,7 +4,6 @@ use mathlib.Core.Bool.{true, ◌&&◌}
 use mathlib.Core.List.{List, [], ◌∷◌, map}
 use Prim.Native.Nat.{ℕ, ◌<◌}
 use native.Mathlib.Omega.{arith}
-use borrow.Author.Rules.{rules}
 use lib.Bits.{bit_xor, xor_lt}
 use lib.Dec.{T}
 use Rattle.laws.specs.Lists.{all_of}

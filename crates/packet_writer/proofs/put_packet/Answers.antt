@@ -3,7 +3,6 @@ use mathlib.Core.Path.{◌≡◌, ap, ◌∙◌}
 use mathlib.Core.List.{map}
 use Prim.Native.Nat.{ℕ, ◌+◌, ◌<◌}
 use native.Mathlib.Omega.{arith}
-use borrow.Author.Rules.{rules}
 use lib.ListN.{length}
 use Rattle.symbol.specs.Symbols.{data_symbol}
 use Rattle.crc.specs.Crc16.{crc_start, crc_from}
@@ -11,7 +10,7 @@ use Rattle.crc.proofs.Laws.{crc_lt}
 use Rattle.packet_writer.specs.declared.Place.{Place}
 use Rattle.packet_writer.proofs.Laws.{wrote_more, wrote_disparity}
 use Rattle.packet_writer.proofs.Turns.{length_map}
-use Rattle.packet_writer.proofs.Parts.{closing_is, head_can, tail_can, packet_is}
+use Rattle.packet_writer.proofs.Parts.{closing_is, tail_can, packet_is}
 use Rattle.packet_writer.proofs.put_packet.Goals as goal
 
 pub put_bytes-p2-requires : goal.put_bytes-p2-requires

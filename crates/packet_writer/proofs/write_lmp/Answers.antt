@@ -7,9 +7,7 @@ use lib.IntN.{ℤ}
 use lib.ListN.{length}
 use mir.Syntax.{w32}
 use mir.ValLaws.{to_z-of_z}
-use Rattle.laws.proofs.Bools.{true_t}
 use Rattle.refusal.specs.Order.{refusal_of}
-use Rattle.character_rules.specs.Disparity.{is_disparity}
 use Rattle.packet_rules.specs.Packets.{retry, symbols_of, packet_checks, wrote}
 use Rattle.packet_writer.proofs.Passed.{lmp_passed}
 use Rattle.packet_writer.proofs.Outcome.{refused_with, written_all}
