@@ -1,4 +1,6 @@
 // A whole capture read into events, one packed number a character, with the table taken once and the state's rule tested once.
+#![tactic(auto)]
+
 mod characters;
 mod runs;
 

@@ -1,4 +1,6 @@
 // What C calls of captures: whether one is legal, how many characters it holds, the character at a place, packing and unpacking.
+#![tactic(auto)]
+
 ghost use Rattle.std.specs.Prelude.{◌≡◌};
 ghost use Rattle.host_calls.specs.CaptureCalls.{counts, finds, packs, unpacks};
 

@@ -1,4 +1,6 @@
 // What C calls to begin the sending end of the retry, its state in 38 lent bytes.
+#![tactic(auto)]
+
 ghost use Rattle.std.specs.Prelude.{◌≡◌};
 ghost use Rattle.host_calls.specs.SenderCalls.{begins_sender, resets};
 

@@ -1,4 +1,6 @@
 // One step of the packet reader, its state in 15 bytes, and what it says in numbers.
+#![tactic(auto)]
+
 ghost use Rattle.std.specs.Prelude.{◌≡◌};
 ghost use Rattle.character_rules.specs.Answers.{reading_says};
 ghost use Rattle.packet_rules.specs.Answers.{event_says, step_says};

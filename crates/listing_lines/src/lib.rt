@@ -1,4 +1,6 @@
 // The lines of a run of results: each is a step of the reader and perhaps a line.
+#![tactic(auto)]
+
 ghost use Rattle.std.specs.Prelude.{◌≡◌, [], ◌∷◌, ◌+◌, ◌≤◌, ◌<◌};
 ghost use Rattle.packet_rules.specs.Answers.{event_says};
 ghost use Rattle.listing_rules.specs.Lines.{fields_of, event_line, listed};
