@@ -1,4 +1,6 @@
 // What C calls of the receiving end of the retry when a segment comes that is not damaged, its state in 4 lent bytes.
+#![tactic(auto)]
+
 ghost use Rattle.std.specs.Prelude.{◌≡◌};
 ghost use Rattle.host_calls.specs.ReceiverCalls.{Arrives, arrives};
 

@@ -3,7 +3,6 @@ use mathlib.Core.Path.{refl, sym, ap, ◌∙◌}
 use Rattle.retry_rules.specs.Arrival.{damaged_arrival_of}
 use Rattle.host_calls.specs.ReceiverCalls.{ArrivesDamaged}
 use Rattle.host_calls.proofs.ReceiverLaws.{damaged_refused, damaged_done}
-use borrow.Author.Rules.{rules}
 use Rattle.host_receiver.proofs.buzz_receiver_damaged_arrival.Goals as goal
 
 pub returns-then-dropped-ne0 : goal.returns-then-dropped-ne0

@@ -3,7 +3,6 @@ use mathlib.Core.Path.{refl, sym, ap, ◌∙◌}
 use Rattle.retry_rules.specs.declared.Sender.{Sender}
 use Rattle.retry_rules.specs.Fresh.{reset_of}
 use Rattle.host_calls.proofs.SenderLaws.{reset_refused, reset_done}
-use borrow.Author.Rules.{rules}
 use Rattle.host_sender.proofs.buzz_sender_reset.Goals as goal
 
 pub returns-then-begun-ne0 : goal.returns-then-begun-ne0
