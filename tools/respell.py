@@ -109,7 +109,7 @@ def turn(text, names, mark, quoted, fields=None):
 def main():
     write = "--write" in sys.argv
     found, fields = declared()
-    names = {n: CHOSEN.get(n, snake(n)) for n, types in found.items() if wanted(n, types)}
+    names = CHOSEN | {n: CHOSEN.get(n, snake(n)) for n, types in found.items() if wanted(n, types)}
     bad = 0
     sources = collections.defaultdict(list)
     for old, new in names.items():

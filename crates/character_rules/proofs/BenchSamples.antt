@@ -22,8 +22,8 @@ samples =
       idle = refl;
       d21_5 = refl;
       run_closing_is = refl;
-      run-output = refl;
+      run_output_is = refl;
       bytes_closing = refl;
-      bytes-output = refl;
+      bytes_output = refl;
       bytes_short = refl;
     }

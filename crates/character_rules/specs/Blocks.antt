@@ -33,7 +33,7 @@ turned half b d = cond (unbalanced half b) (neg_ℤ d) d
 
 -- a block of the list at the disparity in force: complemented at +1 if it is one that changes there
 abbrev pub in_force : ℕ → Bool → Bool → ℕ → ℕ
-in_force allOnes changes plus b = cond (changes && plus) (allOnes - b) b
+in_force all_ones changes plus b = cond (changes && plus) (all_ones - b) b
 
 -- the six-bit block for x. Control: x = 28 has 001111, others use the list, and every block is complemented at +1.
 -- Data: at +1 an unbalanced block, and that for x = 7, is complemented

@@ -22,11 +22,11 @@ pub record Samples : Type 0 where
   pub d21_5 : reading 0b1010101010 (negsuc 0) ≡ clean (D 21 5) (negsuc 0)
   -- K28.5 closes at +1, where its other column is legal: twice clean from −1, into an output that is longer by one
   pub run_closing_is : run_reading (0b0011111010 ∷ 0b1100000101 ∷ []) (negsuc 0) 3 ≡ run_read (negsuc 0)
-  pub run-output :
+  pub run_output_is :
       run_output (0b0011111010 ∷ 0b1100000101 ∷ []) (negsuc 0) (7 ∷ 8 ∷ 9 ∷ [])
       ≡ (0xBC + 256 + 2048) ∷ (0xBC + 256) ∷ 9 ∷ []
   -- D0.0 closes where it began, D3.0 turns the disparity over: from −1 into an output that is longer by one; and into one that is too short
   pub bytes_closing : run_writing (0x00 ∷ 0x03 ∷ []) (negsuc 0) 3 ≡ run_written (pos 1)
-  pub bytes-output :
+  pub bytes_output :
       run_stored (0x00 ∷ 0x03 ∷ []) (negsuc 0) (7 ∷ 8 ∷ 9 ∷ []) ≡ 0b1001110100 ∷ 0b1100011011 ∷ 9 ∷ []
   pub bytes_short : run_writing (0x00 ∷ 0x03 ∷ []) (negsuc 0) 1 ≡ not_run_written 6

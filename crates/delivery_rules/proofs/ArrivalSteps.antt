@@ -50,9 +50,9 @@ module _ (S : ℕ) (w : World ours) (v : Inv S w) (rest : List Item) where
       let a = first (λ q. q) l in
       let e : ℕ = length g.delivered in
       let low : a.j < e + 8 = omega arith in
-      let j-is : a.j ≡ e = near_is a.j e a.near low (sym a.stands.0 ∙ eq ∙ f.expected) in
+      let j_is : a.j ≡ e = near_is a.j e a.near low (sym a.stands.0 ∙ eq ∙ f.expected) in
       let more : length (g.delivered ++ x ∷ []) ≡ e + 1 = length-append g.delivered (x ∷ []) in
-      let content : x ≡ get_or g.accepted e no_content = a.stands.1 ∙ ap (λ (i : ℕ). get_or g.accepted i no_content) j-is in
+      let content : x ≡ get_or g.accepted e no_content = a.stands.1 ∙ ap (λ (i : ℕ). get_or g.accepted i no_content) j_is in
       record {
         rule = v.rule;
         eight = v.eight;

@@ -10,7 +10,7 @@ use lib.ListN.{length, replicate}
 use Rattle.laws.proofs.Cases.{by_cases}
 use Rattle.delivery_rules.specs.Ends.{Item, Reply, Ends}
 use Rattle.delivery_rules.specs.Outside.{outstanding, ticks_left}
-use Rattle.delivery_rules.specs.Model.{Event, offer, send, arrive, lose, damage, hear, lose-reply, damage-reply, tick, World, arrives, hears, step, run}
+use Rattle.delivery_rules.specs.Model.{Event, offer, send, arrive, lose, damage, hear, lose_reply, damage_reply, tick, World, arrives, hears, step, run}
 use Rattle.delivery_rules.specs.Demand.{Empty, Calm, AllCalm, expire_once, SendsEach}
 use Rattle.delivery_rules.proofs.Seeing.{reply_heard, tick_lists}
 use Rattle.delivery_rules.proofs.Ordered.{Ordered, run_ordered}
@@ -38,8 +38,8 @@ module _ (E : Ends) where
   calm_step (lose n) w c = absurd c
   calm_step (damage n) w c = absurd c
   calm_step hear w c = hears_calm w w.backward
-  calm_step (lose-reply n) w c = absurd c
-  calm_step (damage-reply n) w c = absurd c
+  calm_step (lose_reply n) w c = absurd c
+  calm_step (damage_reply n) w c = absurd c
   calm_step tick w c = record { accepted = (tick_lists w.seen).accepted; expiries = omega (arith, c) }
 
   pub calm_run : (es : List Event) (w : World E) → AllCalm E es w → Calmed w (run E es w)
@@ -61,8 +61,8 @@ module _ (E : Ends) where
   sends_calm (offer x ∷ es) j w c = absurd c
   sends_calm (lose n ∷ es) j w c = absurd c
   sends_calm (damage n ∷ es) j w c = absurd c
-  sends_calm (lose-reply n ∷ es) j w c = absurd c
-  sends_calm (damage-reply n ∷ es) j w c = absurd c
+  sends_calm (lose_reply n ∷ es) j w c = absurd c
+  sends_calm (damage_reply n ∷ es) j w c = absurd c
 
   -- and sends no more than were accepted
   ends_at : (es : List Event) (j : ℕ) (w : World E) → SendsEach E j es w → j ≤ length (run E es w).seen.accepted
@@ -75,8 +75,8 @@ module _ (E : Ends) where
   ends_at (offer x ∷ es) j w c = absurd c
   ends_at (lose n ∷ es) j w c = absurd c
   ends_at (damage n ∷ es) j w c = absurd c
-  ends_at (lose-reply n ∷ es) j w c = absurd c
-  ends_at (damage-reply n ∷ es) j w c = absurd c
+  ends_at (lose_reply n ∷ es) j w c = absurd c
+  ends_at (damage_reply n ∷ es) j w c = absurd c
 
   pub sends_le : (es : List Event) (j : ℕ) (w : World E) → SendsEach E j es w → j ≤ length w.seen.accepted
   sends_le es j w c = omega (arith, ends_at es j w c, ap length (calm_run es w (sends_calm es j w c)).accepted)

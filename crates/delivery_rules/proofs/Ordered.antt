@@ -11,7 +11,7 @@ use lib.ListN.{length, length-append}
 use Rattle.laws.proofs.Cases.{by_cases, first_true, second_true}
 use Rattle.delivery_rules.specs.Ends.{Item, Reply, ack, nack, damaged_reply, Ends}
 use Rattle.delivery_rules.specs.Outside.{is_next, Seen, is_up, outstanding, is_running, is_oldest, is_last, gone_with, seen_with, seen_reply, seen_tick}
-use Rattle.delivery_rules.specs.Model.{Event, offer, send, arrive, lose, damage, hear, lose-reply, damage-reply, tick, joined, World, arrives, hears, step, run}
+use Rattle.delivery_rules.specs.Model.{Event, offer, send, arrive, lose, damage, hear, lose_reply, damage_reply, tick, joined, World, arrives, hears, step, run}
 use Rattle.delivery_rules.specs.Demand.{Moment, at}
 
 pub record Ordered (g : Seen) : Type 0 where
@@ -85,8 +85,8 @@ module _ (E : Ends) where
   step_ordered (lose n) w o = o
   step_ordered (damage n) w o = o
   step_ordered hear w o = hears_ordered w w.backward o
-  step_ordered (lose-reply n) w o = o
-  step_ordered (damage-reply n) w o = o
+  step_ordered (lose_reply n) w o = o
+  step_ordered (damage_reply n) w o = o
   step_ordered tick w o = tick_ordered w.seen o
 
   pub run_ordered : (es : List Event) (w : World E) → Ordered w.seen → Ordered (run E es w).seen

@@ -107,19 +107,19 @@ module _ (S : ℕ) (w : World ours) where
       let de = r.delivered in
       let back = in_order r.replies in
       let good : Good S x = subst (Good S) (sym is.1) (v.good r.b (omega arith)) in
-      let k-is : k ≡ r.b % 16 = is.0 in
+      let k_is : k ≡ r.b % 16 = is.0 in
       let lt : k < 16 = omega arith in
       let most : length x.bytes ≤ w.receiver.size = omega (arith, good.most, v.receiver_size) in
       let passes =
       arrival_passes w.receiver k x.channel (length x.bytes) true (length output)
       (record { rule = v.receives; number_lt = lt; channel_lt = good.channel_lt; most = most; some = good.some; long = λ _. long }) in
-      let at : r.b ≡ e → k ≡ w.receiver.expected = λ p. k-is ∙ ap (λ (i : ℕ). i % 16) p ∙ sym f.expected in
+      let at : r.b ≡ e → k ≡ w.receiver.expected = λ p. k_is ∙ ap (λ (i : ℕ). i % 16) p ∙ sym f.expected in
       let close : e ≤ r.b + 8 = omega arith in
       let low : r.b < e + 8 = omega arith in
       arrive_either w.receiver k x true output (λ (a : Arriving Receiver). Inv S (arrived ours w rest a) → Ours S j (arrived ours w rest a))
       (λ no. absurd (no passes))
       (λ eq _ inv.
-      let b-is = near_is r.b e close low (sym k-is ∙ eq ∙ f.expected) in
+      let b_is = near_is r.b e close low (sym k_is ∙ eq ∙ f.expected) in
       record {
         inv = inv;
         few = r.few;
@@ -127,7 +127,7 @@ module _ (S : ℕ) (w : World ours) where
         b = suc r.b;
         delivered = omega (arith, length-append w.seen.delivered (x ∷ []));
         items = l;
-        replies = then_one (ack k) k-is r.replies;
+        replies = then_one (ack k) k_is r.replies;
       })
       (λ ne _ inv. record {
         inv = inv;
@@ -136,21 +136,21 @@ module _ (S : ℕ) (w : World ours) where
         b = suc r.b;
         delivered = elim (dec_lt r.b e) [ yes p ↦ p | no p ↦ absurd (ne (at (omega arith))) ];
         items = l;
-        replies = then_one (ack k) k-is r.replies;
+        replies = then_one (ack k) k_is r.replies;
       })
-      (λ not-next not_last.
+      (λ not_next not_last.
       absurd
       (elim (dec_lt r.b e) [
         | yes p ↦
-            let other : k ≡ w.receiver.expected → ⊥ = λ eq. ne-lt r.b e p (near_is r.b e close low (sym k-is ∙ eq ∙ f.expected)) in
+            let other : k ≡ w.receiver.expected → ⊥ = λ eq. ne_lt r.b e p (near_is r.b e close low (sym k_is ∙ eq ∙ f.expected)) in
             let last : between k w.receiver.expected < w.receiver.received =
-            rw (f.expected, f.received, k-is) (among r.b e p close) in
+            rw (f.expected, f.received, k_is) (among r.b e p close) in
             not_last other (lt-ltb (between k w.receiver.expected) w.receiver.received last)
-        | no p ↦ not-next (at (omega arith)) refl
+        | no p ↦ not_next (at (omega arith)) refl
       ]))
     where
-      ne-lt : (a b : ℕ) → a < b → a ≡ b → ⊥
-      ne-lt a b h q = omega arith
+      ne_lt : (a b : ℕ) → a < b → a ≡ b → ⊥
+      ne_lt a b h q = omega arith
 
   -- the reply that is heard is the ACK of the oldest
   pub hears_next :

@@ -94,7 +94,7 @@ module _ (S : ℕ) (w : World ours) (v : Inv S w) where
         let f = v.follows in
         let a = first (λ q. q) l in
         let is : k ≡ a.j % 16 = a.stands in
-        let hears-it : Hears s k = record { sound = up S w v h; number_lt = omega arith } in
+        let hears_it : Hears s k = record { sound = up S w v h; number_lt = omega arith } in
         let P : Counters → Type 0 = λ d. sender_rule (with_counters s d) ≡ true → Inv S (told ours w (with_counters s d) rest (seen_reply g (ack k))) in
         let other : (k ≡ c.oldest → ⊥) → seen_reply g (ack k) ≡ g = λ ne. other_ack g k (λ q. ne (q ∙ sym u.oldest)) in
         let all : P (heard c false k) =
@@ -103,11 +103,11 @@ module _ (S : ℕ) (w : World ours) (v : Inv S w) where
         (λ some _ eq rule.
         let mine : k ≡ g.released % 16 = eq ∙ u.oldest in
         let low : a.j < g.released + 8 = omega arith in
-        let j-is = near_is a.j g.released a.near low (sym is ∙ mine) in
+        let j_is = near_is a.j g.released a.near low (sym is ∙ mine) in
         rw (own_ack g h (omega arith) k mine)
         (released_inv rest some (omega arith) (lower (omega arith) (omega arith) a.rest) rule))
         (λ _ _ ne _ _. rw (other ne) (same_inv rest (tail l))) (λ _ _ ne _ rule. rw (other ne) (moved_inv rest (tail l) rule)) in
-        rw (ack_heard s k hears-it) (all (subst (λ (d : Sender). sender_rule d ≡ true) (ack_heard s k hears-it) (reply_kept s false k v.rule)))
+        rw (ack_heard s k hears_it) (all (subst (λ (d : Sender). sender_rule d ≡ true) (ack_heard s k hears_it) (reply_kept s false k v.rule)))
 
     nack_inv : (k : ℕ) → Replies (nack k ∷ rest) → k < 16 → Inv S (told ours w (hearing w.sender (nack k)) rest (seen_reply w.seen (nack k)))
     unfolding hearing
@@ -116,7 +116,7 @@ module _ (S : ℕ) (w : World ours) (v : Inv S w) where
         let c = s.counters in
         let g = w.seen in
         let u = v.counts in
-        let hears-it : Hears s k = record { sound = up S w v h; number_lt = lt } in
+        let hears_it : Hears s k = record { sound = up S w v h; number_lt = lt } in
         let P : Counters → Type 0 = λ d. sender_rule (with_counters s d) ≡ true → Inv S (told ours w (with_counters s d) rest (seen_reply g (nack k))) in
         let all : P (heard c true k) =
         heard_cases P c true k (λ none _. rw (unheard g (nack k) (stands g (omega arith))) (same_inv rest (tail l)))
@@ -125,16 +125,16 @@ module _ (S : ℕ) (w : World ours) (v : Inv S w) where
         (retimed_inv S w v 0 c.columns 0 c.link 0 0 rest (omega arith) refl (tail l) rule))
         (λ _ _ ne rule. rw (other_nack g k (λ q. ne (q ∙ sym u.oldest))) (moved_inv rest (tail l) rule))
         (λ _ q. absurd (false_is_not_true (sym q))) (λ _ q. absurd (false_is_not_true (sym q))) (λ _ q. absurd (false_is_not_true (sym q))) in
-        rw (nack_heard s k hears-it) (all (subst (λ (d : Sender). sender_rule d ≡ true) (nack_heard s k hears-it) (reply_kept s true k v.rule)))
+        rw (nack_heard s k hears_it) (all (subst (λ (d : Sender). sender_rule d ≡ true) (nack_heard s k hears_it) (reply_kept s true k v.rule)))
 
     heard_inv : (y : Reply) → Replies (y ∷ rest) → Inv S (told ours w (hearing w.sender y) rest (seen_reply w.seen y))
     unfolding seen_reply
     heard_inv (ack k) l = ack_inv k l
-    heard_inv (nack k) l = nack_inv k l (idle-lt l)
+    heard_inv (nack k) l = nack_inv k l (idle_lt l)
       where
-        idle-lt : {U b : ℕ} → Line IsAck IsIdle U b (nack k ∷ rest) → k < 16
-        idle-lt (Line.skip q r) = q
-        idle-lt (Line.item j x lo hi r) = absurd x
+        idle_lt : {U b : ℕ} → Line IsAck IsIdle U b (nack k ∷ rest) → k < 16
+        idle_lt (Line.skip q r) = q
+        idle_lt (Line.item j x lo hi r) = absurd x
     heard_inv damaged_reply l = rw (damaged_heard w.sender) (same_inv rest (tail l))
 
   pub hears_inv : (l : List Reply) → Replies l → Inv S (hears ours w l)

@@ -13,7 +13,7 @@ use Rattle.laws.proofs.Cases.{by_cases}
 use Rattle.retry_rules.specs.Lent.{Content}
 use Rattle.delivery_rules.specs.Ends.{Item, segment, damaged, Reply, ack, nack, damaged_reply, Ends}
 use Rattle.delivery_rules.specs.Outside.{Seen, outstanding, ticks_left, seen_reply}
-use Rattle.delivery_rules.specs.Model.{Event, offer, send, arrive, lose, damage, hear, lose-reply, damage-reply, tick, World, arrived, arrives, told, hears, step, run}
+use Rattle.delivery_rules.specs.Model.{Event, offer, send, arrive, lose, damage, hear, lose_reply, damage_reply, tick, World, arrived, arrives, told, hears, step, run}
 use Rattle.delivery_rules.specs.Demand.{no_content, AllGood, FirstSoMany, Empty, NoExpiry, expire_once, Fits, SendsEach, Drill, drilled, Recovered}
 use Rattle.delivery_rules.proofs.Sequence.{Sequence, done, first_of, none_left}
 use Rattle.delivery_rules.proofs.Seeing.{plain_tick_lem, expiry}
@@ -85,14 +85,14 @@ module _ (E : Ends) (Inv : World E → Type 0) (point : World E → ℕ) where
     record Finished (w : World E) : Type 0 where
       inv : Inv w
       few : w.seen.expiries ≤ 2
-      all-released : w.seen.released ≡ length w.seen.accepted
-      all-delivered : length w.seen.accepted ≤ length w.seen.delivered
+      all_released : w.seen.released ≡ length w.seen.accepted
+      all_delivered : length w.seen.accepted ≤ length w.seen.delivered
 
     finished : (j : ℕ) (w : World E) → Resending j w → j ≡ length w.seen.accepted → Empty E w → Finished w
     finished j w r q e =
         let a = none_left (subst (λ (l : List Item). Sequence (IsItem w.seen.accepted) r.b j l) e.0 r.items) in
         let b = none_left (subst (λ (l : List Reply). Sequence IsAck w.seen.released r.b l) e.1 r.replies) in
-        record { inv = r.inv; few = r.few; all-released = b ∙ a ∙ q; all-delivered = omega (arith, a, r.delivered) }
+        record { inv = r.inv; few = r.few; all_released = b ∙ a ∙ q; all_delivered = omega (arith, a, r.delivered) }
 
     sent_each : (es : List Event) (j : ℕ) (w : World E) → SendsEach E j es w → Resending j w → Finished (run E es w)
     unfolding run SendsEach step
@@ -110,8 +110,8 @@ module _ (E : Ends) (Inv : World E → Type 0) (point : World E → ℕ) where
     sent_each (offer x ∷ es) j w c r = absurd c
     sent_each (lose n ∷ es) j w c r = absurd c
     sent_each (damage n ∷ es) j w c r = absurd c
-    sent_each (lose-reply n ∷ es) j w c r = absurd c
-    sent_each (damage-reply n ∷ es) j w c r = absurd c
+    sent_each (lose_reply n ∷ es) j w c r = absurd c
+    sent_each (damage_reply n ∷ es) j w c r = absurd c
 
     -- before it: both lines empty, the send point at the oldest
     record Ready (w : World E) : Type 0 where
@@ -180,9 +180,9 @@ module _ (E : Ends) (Inv : World E → Type 0) (point : World E → ℕ) where
         let f = sent_each d.sending ready.seen.released ready d.each again in
         record {
           all =
-              R.prefix end f.inv ∙ take_all (length end.seen.delivered) end.seen.accepted f.all-delivered ∙ sends.accepted
+              R.prefix end f.inv ∙ take_all (length end.seen.delivered) end.seen.accepted f.all_delivered ∙ sends.accepted
               ∙ (expired E emptied).accepted
               ∙ calm.accepted;
-          none_stored = omega (arith, f.all-released);
-          eight_free = λ xs eight good. R.accepts end f.inv f.few f.all-released xs eight good;
+          none_stored = omega (arith, f.all_released);
+          eight_free = λ xs eight good. R.accepts end f.inv f.few f.all_released xs eight good;
         }

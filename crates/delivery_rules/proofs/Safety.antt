@@ -15,11 +15,11 @@ use Rattle.retry_rules.specs.declared.Receiver.{Receiver}
 use Rattle.retry_rules.proofs.Kept.{fresh_sender_kept, fresh_receiver_kept}
 use Rattle.retry_rules.proofs.Refusals.{fresh_sender_number, fresh_receiver_number}
 use Rattle.retry_rules.proofs.Seen.{Begins, fresh_passes, size_passes}
-use Rattle.retry_rules.specs.States.{is_up as saysUp, is_down, sender_rule, receiver_rule, Eight}
+use Rattle.retry_rules.specs.States.{is_up as says_up, is_down, sender_rule, receiver_rule, Eight}
 use Rattle.retry_rules.specs.Tick.{tick_of}
 use Rattle.delivery_rules.specs.Ends.{damaged, damaged_reply}
 use Rattle.delivery_rules.specs.Outside.{is_up, seen_tick}
-use Rattle.delivery_rules.specs.Model.{Event, offer, send, arrive, lose, damage, hear, lose-reply, damage-reply, tick, without, World, step, run, start}
+use Rattle.delivery_rules.specs.Model.{Event, offer, send, arrive, lose, damage, hear, lose_reply, damage_reply, tick, without, World, step, run, start}
 use Rattle.delivery_rules.specs.Demand.{Allowed, FirstSoMany, Moment, at}
 use Rattle.delivery_rules.specs.Ours.{ours}
 use Rattle.delivery_rules.specs.Honest.{Honest}
@@ -39,8 +39,8 @@ module _ (S : ℕ) where
   step_inv (lose n) w v = lined_inv S w v (without w.forward n) w.backward (lost n v.items) v.replies
   step_inv (damage n) w v = lined_inv S w v (set w.forward n damaged) w.backward (damaged_at n damaged tt v.items) v.replies
   step_inv hear w v = hears_inv S w v w.backward v.replies
-  step_inv (lose-reply n) w v = lined_inv S w v w.forward (without w.backward n) v.items (lost n v.replies)
-  step_inv (damage-reply n) w v =
+  step_inv (lose_reply n) w v = lined_inv S w v w.forward (without w.backward n) v.items (lost n v.replies)
+  step_inv (damage_reply n) w v =
       lined_inv S w v w.forward (set w.backward n damaged_reply) v.items (damaged_at n damaged_reply tt v.replies)
   step_inv tick w v = tick_inv S w v
 
@@ -99,7 +99,7 @@ first_so_many m = (moment_inv m).prefix
 
 -- our counters tell the truth
 module _ (S : ℕ) (w : World ours) (v : Inv S w) where
-  up_is : saysUp w.sender.counters ≡ is_up w.seen
+  up_is : says_up w.sender.counters ≡ is_up w.seen
   up_is =
       by_test (is_up w.seen) (λ t. eq-eqb w.sender.counters.link 1 (up S w v (ltb-true w.seen.expiries 3 t)).up ∙ sym t)
       (λ t.

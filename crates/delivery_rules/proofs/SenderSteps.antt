@@ -56,7 +56,7 @@ module _ (S : ℕ) (w : World ours) (v : Inv S w) where
       omega (arith, buffers_apart c.size (free_slot c) 8 (omega arith), o.buffers, o.most) in
       let fits : Good c.size x = record { channel_lt = o.channel_lt; some = o.some; most = o.most } in
       let more : length (acc ++ x ∷ []) ≡ length acc + 1 = length-append acc (x ∷ []) in
-      let fits-S : Good S x = subst (λ (z : ℕ). Good z x) v.size fits in
+      let fits_s : Good S x = subst (λ (z : ℕ). Good z x) v.size fits in
       record {
         rule = rule;
         eight = eight;
@@ -74,7 +74,7 @@ module _ (S : ℕ) (w : World ours) (v : Inv S w) where
               | no p ↦
                   let y : length acc ≡ j = omega (arith, more, h) in
                   subst (Good S)
-                  (sym (get_or-append_seam acc x [] no_content) ∙ ap (λ (k : ℕ). get_or (acc ++ x ∷ []) k no_content) y) fits-S
+                  (sym (get_or-append_seam acc x [] no_content) ∙ ap (λ (k : ℕ). get_or (acc ++ x ∷ []) k no_content) y) fits_s
             ];
         holds_it = λ i h.
             elim (dec_lt i c.stored) [

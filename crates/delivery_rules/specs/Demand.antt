@@ -5,7 +5,7 @@ use Rattle.segment_size.specs.Sizes.{size_allowed}
 use Rattle.retry_rules.specs.Lent.{Content}
 use Rattle.delivery_rules.specs.Ends.{Item, segment, damaged, Ends}
 use Rattle.delivery_rules.specs.Outside.{is_up, outstanding, stored, ticks_left, seen_tick}
-use Rattle.delivery_rules.specs.Model.{Event, offer, send, arrive, lose, damage, hear, lose-reply, damage-reply, tick, World, step, run, start}
+use Rattle.delivery_rules.specs.Model.{Event, offer, send, arrive, lose, damage, hear, lose_reply, damage_reply, tick, World, step, run, start}
 
 abbrev pub no_content : Content
 no_content = record { channel = 0; bad = Bool.false; bytes = [] }
@@ -56,8 +56,8 @@ module _ (E : Ends) where
   Calm (lose n) w = ⊥
   Calm (damage n) w = ⊥
   Calm hear w = Unit {0}
-  Calm (lose-reply n) w = ⊥
-  Calm (damage-reply n) w = ⊥
+  Calm (lose_reply n) w = ⊥
+  Calm (damage_reply n) w = ⊥
   Calm tick w = NoExpiry w
 
   unfoldable pub AllCalm : List Event → World E → Type 0
@@ -88,8 +88,8 @@ module _ (E : Ends) where
   SendsEach j (offer x ∷ es) w = ⊥
   SendsEach j (lose n ∷ es) w = ⊥
   SendsEach j (damage n ∷ es) w = ⊥
-  SendsEach j (lose-reply n ∷ es) w = ⊥
-  SendsEach j (damage-reply n ∷ es) w = ⊥
+  SendsEach j (lose_reply n ∷ es) w = ⊥
+  SendsEach j (damage_reply n ∷ es) w = ⊥
 
   -- the drill from a world: empty both lines, let the timer expire, send each stored segment once
   pub record Drill (w : World E) : Type 0 where

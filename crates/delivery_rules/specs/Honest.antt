@@ -3,12 +3,12 @@
 use Rattle.std.specs.Prelude.{◌-◌, ◌%◌, min, not, ◌&&◌, ◌≡◌, length}
 use Rattle.retry_rules.specs.declared.Sender.{Sender}
 use Rattle.retry_rules.specs.declared.Receiver.{Receiver}
-use Rattle.retry_rules.specs.States.{is_up as saysUp}
+use Rattle.retry_rules.specs.States.{is_up as says_up}
 use Rattle.retry_rules.specs.Tick.{tick_of}
 use Rattle.delivery_rules.specs.Outside.{Seen, is_up, outstanding, stored, seen_tick}
 
 pub record Honest (s : Sender) (r : Receiver) (g : Seen) : Type 0 where
-  pub up : saysUp s.counters ≡ is_up g
+  pub up : says_up s.counters ≡ is_up g
   pub oldest_is : s.counters.oldest ≡ g.released % 16
   pub stored_is : s.counters.stored ≡ stored g
   pub outstanding_is : s.counters.outstanding ≡ outstanding g

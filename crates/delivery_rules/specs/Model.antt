@@ -12,7 +12,7 @@ pub data Event : Type 0 where
   arrive : Bool → List ℕ → Event
   lose damage : ℕ → Event
   hear : Event
-  lose-reply damage-reply : ℕ → Event
+  lose_reply damage_reply : ℕ → Event
   tick : Event
 
 -- one more at the end of a list, if there is one
@@ -110,8 +110,8 @@ module _ (E : Ends) where
   step (lose n) w = lined w (without w.forward n) w.backward
   step (damage n) w = lined w (set w.forward n damaged) w.backward
   step hear w = hears w w.backward
-  step (lose-reply n) w = lined w w.forward (without w.backward n)
-  step (damage-reply n) w = lined w w.forward (set w.backward n damaged_reply)
+  step (lose_reply n) w = lined w w.forward (without w.backward n)
+  step (damage_reply n) w = lined w w.forward (set w.backward n damaged_reply)
   step tick w = told w (E.tick w.sender) w.backward (seen_tick w.seen)
 
   unfoldable pub run : List Event → World → World

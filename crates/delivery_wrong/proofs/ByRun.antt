@@ -13,7 +13,7 @@ use Rattle.segment_size.specs.Sizes.{size_allowed}
 use Rattle.retry_rules.specs.Lent.{Content}
 use Rattle.delivery_rules.specs.Ends.{Item, segment, damaged, Ends}
 use Rattle.delivery_rules.specs.Outside.{is_up, stored, seen_tick}
-use Rattle.delivery_rules.specs.Model.{Event, offer, send, arrive, lose, damage, hear, lose-reply, damage-reply, tick, World, step, run, start}
+use Rattle.delivery_rules.specs.Model.{Event, offer, send, arrive, lose, damage, hear, lose_reply, damage_reply, tick, World, step, run, start}
 use Rattle.delivery_rules.specs.Demand.{no_content, Allowed, Moment, at, AllCalm, expire_once, Fits, SendsEach, Drill, Delivers}
 
 -- the i-th segment: one byte, on channel 3, with the bad mark
@@ -78,8 +78,8 @@ module _ (E : Ends) where
   checked j (offer x ∷ es) w = false
   checked j (lose n ∷ es) w = false
   checked j (damage n ∷ es) w = false
-  checked j (lose-reply n ∷ es) w = false
-  checked j (damage-reply n ∷ es) w = false
+  checked j (lose_reply n ∷ es) w = false
+  checked j (damage_reply n ∷ es) w = false
 
   sends_each : (es : List Event) (j : ℕ) (w : World E) → checked j es w ≡ true → SendsEach E j es w
   unfolding checked SendsEach
@@ -109,8 +109,8 @@ module _ (E : Ends) where
   sends_each (offer x ∷ es) j w q = absurd (false_is_not_true q)
   sends_each (lose n ∷ es) j w q = absurd (false_is_not_true q)
   sends_each (damage n ∷ es) j w q = absurd (false_is_not_true q)
-  sends_each (lose-reply n ∷ es) j w q = absurd (false_is_not_true q)
-  sends_each (damage-reply n ∷ es) j w q = absurd (false_is_not_true q)
+  sends_each (lose_reply n ∷ es) j w q = absurd (false_is_not_true q)
+  sends_each (damage_reply n ∷ es) j w q = absurd (false_is_not_true q)
 
   -- with T = 1, so that each tick with something outstanding is an expiry, and S = 8
   abbrev moment : List Event → Moment E

@@ -13,7 +13,7 @@ use Rattle.retry_rules.specs.declared.Receiver.{Receiver}
 use Rattle.retry_rules.specs.Lent.{Content}
 use Rattle.delivery_rules.specs.Ends.{Item, segment, damaged, Reply, Ends}
 use Rattle.delivery_rules.specs.Outside.{outstanding, ticks_left}
-use Rattle.delivery_rules.specs.Model.{Event, offer, send, arrive, lose, damage, hear, lose-reply, damage-reply, tick, joined, without, World, arrives, hears, step, run, start}
+use Rattle.delivery_rules.specs.Model.{Event, offer, send, arrive, lose, damage, hear, lose_reply, damage_reply, tick, joined, without, World, arrives, hears, step, run, start}
 use Rattle.delivery_rules.specs.Demand.{Good, AllGood, Allowed, Moment, at, AllCalm, expire_once, SendsEach, Drill, drilled, Delivers}
 use Rattle.delivery_rules.proofs.Seeing.{reply_heard, tick_lists}
 use Rattle.delivery_wrong.specs.Altered.{accepts_none, never_sends, never_sends_and_lies, only_nacks, acks_only, acks_and_delivers_nothing, refuses_arrivals}
@@ -115,8 +115,8 @@ module _ (E : Ends) where
     undelivered (lose n) w p = p
     undelivered (damage n) w p = p
     undelivered hear w p = hears_same w w.backward ∙ p
-    undelivered (lose-reply n) w p = p
-    undelivered (damage-reply n) w p = p
+    undelivered (lose_reply n) w p = p
+    undelivered (damage_reply n) w p = p
     undelivered tick w p = (tick_lists w.seen).delivered ∙ p
 
     pub delivers_nothing : Delivers E → ⊥
@@ -150,16 +150,16 @@ module _ (E : Ends) where
         heard : (l : List Reply) → Still (hears E w l)
         heard [] = p
         heard (y ∷ l) = record { line = p.line; nothing = (reply_heard w.seen y).lists.delivered ∙ p.nothing }
-    still (lose-reply n) w p = record { line = p.line; nothing = p.nothing }
-    still (damage-reply n) w p = record { line = p.line; nothing = p.nothing }
+    still (lose_reply n) w p = record { line = p.line; nothing = p.nothing }
+    still (damage_reply n) w p = record { line = p.line; nothing = p.nothing }
     still tick w p = record { line = p.line; nothing = (tick_lists w.seen).delivered ∙ p.nothing }
 
     pub never_sends_lem : Delivers E → ⊥
     unfolding offered
     never_sends_lem d =
         let all = delivered_all d in
-        let fresh-still : Still begin = record { line = refl; nothing = refl } in
-        let nothing = (after_drill Still still (at E offered) all.0 (along Still still (map offer eight) begin fresh-still)).nothing in
+        let fresh_still : Still begin = record { line = refl; nothing = refl } in
+        let nothing = (after_drill Still still (at E offered) all.0 (along Still still (map offer eight) begin fresh_still)).nothing in
         omega (arith, ap length (sym nothing ∙ all.1))
 
 -- the ends that document 01 lists

@@ -88,15 +88,15 @@ module _ (really : Bool) where
         let le = in_order l in
         let de = r.delivered in
         let back = in_order r.replies in
-        let k-is : k ≡ r.b % 16 = is.0 in
+        let k_is : k ≡ r.b % 16 = is.0 in
         let expected : t % 16 ≡ e % 16 = ap (λ (n : ℕ). n % 16) u.taken in
-        let at : r.b ≡ e → k ≡ t % 16 = λ p. k-is ∙ ap (λ (i : ℕ). i % 16) p ∙ sym expected in
+        let at : r.b ≡ e → k ≡ t % 16 = λ p. k_is ∙ ap (λ (i : ℕ). i % 16) p ∙ sym expected in
         let close : e ≤ r.b + 8 = omega arith in
         let low : r.b < e + 8 = omega arith in
         let P : Arriving PlainReceiver → Type 0 = λ a. Inv (arrived (plain (rule_choice really)) w rest a) → Re j (arrived (plain (rule_choice really)) w rest a) in
         by_cases P (eqb k (t % 16))
         (λ eq inv.
-        let b-is = near_is r.b e close low (sym k-is ∙ eqb-true k (t % 16) eq ∙ expected) in
+        let b_is = near_is r.b e close low (sym k_is ∙ eqb-true k (t % 16) eq ∙ expected) in
         record {
           inv = inv;
           few = r.few;
@@ -104,11 +104,11 @@ module _ (really : Bool) where
           b = suc r.b;
           delivered = omega (arith, length-append w.seen.delivered (x ∷ []));
           items = l;
-          replies = then_one (ack k) k-is r.replies;
+          replies = then_one (ack k) k_is r.replies;
         })
         (λ ne.
         let before : r.b < e = elim (dec_lt r.b e) [ yes p ↦ p | no p ↦ absurd (eqb-false k (t % 16) ne (at (omega arith))) ] in
-        let last : between k (t % 16) < eight_of (rule_choice really) t = recent k r.b t e k-is u.taken (among r.b e before close) in
+        let last : between k (t % 16) < eight_of (rule_choice really) t = recent k r.b t e k_is u.taken (among r.b e before close) in
         by_cases P (ltb (between k (t % 16)) (eight_of (rule_choice really) t))
         (λ _ inv. record {
           inv = inv;
@@ -117,7 +117,7 @@ module _ (really : Bool) where
           b = suc r.b;
           delivered = before;
           items = l;
-          replies = then_one (ack k) k-is r.replies;
+          replies = then_one (ack k) k_is r.replies;
         })
         (λ no. absurd (omega (arith, last, ltb-false (between k (t % 16)) (eight_of (rule_choice really) t) no))))
       where
@@ -142,7 +142,7 @@ module _ (really : Bool) where
         let out : g.released < g.gone = omega arith in
         let mine : k ≡ s.released % 16 = q ∙ ap (λ (o : ℕ). o % 16) (sym u.released) in
         let zero = none_ahead really k s.released mine in
-        let hears-it = cond_false (idle s) s _ (busy s (omega arith) (omega arith))
+        let hears_it = cond_false (idle s) s _ (busy s (omega arith) (omega arith))
         ∙ cond_true (ltb (ahead (rule_choice really) s k) 1) (plain_release (rule_choice really) s (ahead (rule_choice really) s k + 1)) _
         (lt-ltb (ahead (rule_choice really) s k) 1 (omega arith)) in
         let seen = own_ack g (omega arith) out k q in
@@ -157,7 +157,7 @@ module _ (really : Bool) where
           items = r.items;
           replies = subst (λ (i : ℕ). Sequence IsAck i r.b rest) (omega arith) l;
         } in
-        subst (λ (d : PlainSender). P d (seen_reply g (ack k))) (sym hears-it)
+        subst (λ (d : PlainSender). P d (seen_reply g (ack k))) (sym hears_it)
         (subst (P (plain_release (rule_choice really) s (ahead (rule_choice really) s k + 1))) (sym seen) there)
 
     -- a tick: nothing outstanding, before the T-th, or an expiry

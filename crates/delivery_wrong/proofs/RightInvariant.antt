@@ -84,11 +84,11 @@ module _ (really : Bool) where
 
     -- another send point, timer and count
     moved_inv :
-        (point ticks expiries seen-ticks counted : ℕ) (rest : List Reply) → w.seen.released ≤ point → point ≤ w.seen.gone → ticks < w.seen.columns
-        → ticks ≡ seen-ticks → expiries ≡ counted → Line IsAck IsIdle (length w.seen.delivered) w.seen.released rest
+        (point ticks expiries seen_ticks counted : ℕ) (rest : List Reply) → w.seen.released ≤ point → point ≤ w.seen.gone → ticks < w.seen.columns
+        → ticks ≡ seen_ticks → expiries ≡ counted → Line IsAck IsIdle (length w.seen.delivered) w.seen.released rest
         → Inv (told (plain (rule_choice really)) w (moved w.sender point ticks expiries) rest
-        (seen_with w.seen w.seen.gone w.seen.released seen-ticks counted))
-    moved_inv point ticks expiries seen-ticks counted rest a b c d e l =
+        (seen_with w.seen w.seen.gone w.seen.released seen_ticks counted))
+    moved_inv point ticks expiries seen_ticks counted rest a b c d e l =
         let u = v.counts in
         record { counts = omega arith; eight = v.eight; prefix = v.prefix; holds_it = v.holds_it; items = v.items; replies = l }
 
@@ -145,14 +145,14 @@ module _ (really : Bool) where
         let mine : k ≡ g.released % 16 = ahead_none k s.released lt (ltb-true (ahead (rule_choice really) s k) 1 e) ∙ same in
         let zero = none_ahead k s.released (mine ∙ sym same) in
         let low : a.j < g.released + 8 = omega arith in
-        let j-is = near_is a.j g.released a.near low (sym is ∙ mine) in
+        let j_is = near_is a.j g.released a.near low (sym is ∙ mine) in
         rw (own_ack g on.0 on.1 k mine)
         (released_inv (ahead (rule_choice really) s k + 1) rest (omega arith) (omega arith) (lower (omega arith) (omega arith) a.rest)))
         (λ e.
         let far = ltb-false (ahead (rule_choice really) s k) 1 e in
-        let not-mine = other_ack g k (λ q. absurd (omega (arith, none_ahead k s.released (q ∙ sym same), far))) in
-        by_cases P (among_last (eight_of (rule_choice really) s.released) (s.released % 16) k) (λ _. rw not-mine (same_inv rest (tail l)))
-        (λ _. rw not-mine (back_inv rest (tail l)))))
+        let not_mine = other_ack g k (λ q. absurd (omega (arith, none_ahead k s.released (q ∙ sym same), far))) in
+        by_cases P (among_last (eight_of (rule_choice really) s.released) (s.released % 16) k) (λ _. rw not_mine (same_inv rest (tail l)))
+        (λ _. rw not_mine (back_inv rest (tail l)))))
 
     nack_inv :
         (k : ℕ) (rest : List Reply) → Line IsAck IsIdle (length w.seen.delivered) w.seen.released (nack k ∷ rest)

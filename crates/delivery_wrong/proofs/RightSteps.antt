@@ -15,7 +15,7 @@ use Rattle.retry_rules.specs.Numbers.{between, among_last}
 use Rattle.retry_rules.specs.Lent.{Content}
 use Rattle.delivery_rules.specs.Ends.{Item, segment, damaged, Reply, ack, nack, damaged_reply, Offering, Sending, Arriving}
 use Rattle.delivery_rules.specs.Outside.{is_next, gone_with}
-use Rattle.delivery_rules.specs.Model.{Event, offer, send, arrive, lose, damage, hear, lose-reply, damage-reply, tick, without, World, offered, sent, arrived, lined, arrives, step, run, start}
+use Rattle.delivery_rules.specs.Model.{Event, offer, send, arrive, lose, damage, hear, lose_reply, damage_reply, tick, without, World, offered, sent, arrived, lined, arrives, step, run, start}
 use Rattle.delivery_rules.specs.Demand.{no_content}
 use Rattle.delivery_rules.proofs.Lines.{Line, empty, weaken, lower, snoc, snoc_skip, lost, damaged_at, tail, first}
 use Rattle.delivery_rules.proofs.Round.{near_is, among_is}
@@ -168,9 +168,9 @@ module _ (really : Bool) where
         by_cases P (eqb k (r.taken % 16))
         (λ t. by_cases P room
         (λ _.
-        let j-is : a.j ≡ e = near_is a.j e a.near low (sym is ∙ eqb-true k (r.taken % 16) t ∙ expected) in
+        let j_is : a.j ≡ e = near_is a.j e a.near low (sym is ∙ eqb-true k (r.taken % 16) t ∙ expected) in
         let more : length (g.delivered ++ x ∷ []) ≡ e + 1 = length-append g.delivered (x ∷ []) in
-        let content : x ≡ get_or g.accepted e no_content = a.stands.1 ∙ ap (λ (i : ℕ). get_or g.accepted i no_content) j-is in
+        let content : x ≡ get_or g.accepted e no_content = a.stands.1 ∙ ap (λ (i : ℕ). get_or g.accepted i no_content) j_is in
         record {
           counts = omega arith;
           eight = v.eight;
@@ -204,8 +204,8 @@ module _ (really : Bool) where
   step_inv (lose n) w v = lined_inv w v (without w.forward n) w.backward (lost n v.items) v.replies
   step_inv (damage n) w v = lined_inv w v (set w.forward n damaged) w.backward (damaged_at n damaged tt v.items) v.replies
   step_inv hear w v = hears_inv really w v w.backward v.replies
-  step_inv (lose-reply n) w v = lined_inv w v w.forward (without w.backward n) v.items (lost n v.replies)
-  step_inv (damage-reply n) w v = lined_inv w v w.forward (set w.backward n damaged_reply) v.items (damaged_at n damaged_reply tt v.replies)
+  step_inv (lose_reply n) w v = lined_inv w v w.forward (without w.backward n) v.items (lost n v.replies)
+  step_inv (damage_reply n) w v = lined_inv w v w.forward (set w.backward n damaged_reply) v.items (damaged_at n damaged_reply tt v.replies)
   step_inv tick w v = tick_inv really w v
 
   pub run_inv : (es : List Event) (w : World (plain (rule_choice really))) → Inv w → Inv (run (plain (rule_choice really)) es w)

@@ -13,14 +13,14 @@ use Rattle.retry_rules.specs.Numbers.{among_last}
 use Rattle.retry_rules.specs.Lent.{Content}
 use Rattle.delivery_rules.specs.Ends.{Offering}
 use Rattle.delivery_rules.specs.Outside.{gone_with, seen_reply, seen_tick}
-use Rattle.delivery_rules.specs.Model.{Event, offer, send, arrive, lose-reply, World, offered, step, run, start}
+use Rattle.delivery_rules.specs.Model.{Event, offer, send, arrive, lose_reply, World, offered, step, run, start}
 use Rattle.delivery_rules.specs.Demand.{expire_once, Delivers}
 use Rattle.delivery_wrong.specs.Plain.{PlainSender, fallen, plain_taken, plain_offer, plain_send, plain_hear, plain_tick, plain_arrive, wide_choice, wide}
 use Rattle.delivery_wrong.proofs.ByRun.{segments, times, lent, output, round, after, checked, breaks_at, unrecovered_at, run_append}
 
 -- nine are sent and delivered and their ACKs lost: the oldest is no longer one of the last eight, so it is answered with NACK for ever
 abbrev pub nine_sent : List Event
-nine_sent = times 9 (send output ∷ []) ++ times 9 (arrive true output ∷ []) ++ times 9 (lose-reply 0 ∷ [])
+nine_sent = times 9 (send output ∷ []) ++ times 9 (arrive true output ∷ []) ++ times 9 (lose_reply 0 ∷ [])
 
 abbrev pub nine_lost : List Event
 nine_lost = map offer (segments 0 9) ++ nine_sent

@@ -6,7 +6,7 @@ use mathlib.Core.List.{List, [], ◌∷◌, ◌++◌, map}
 use Rattle.retry_rules.specs.Numbers.{among_last}
 use Rattle.delivery_rules.specs.Ends.{segment}
 use Rattle.delivery_rules.specs.Outside.{gone_with, seen_reply, seen_tick}
-use Rattle.delivery_rules.specs.Model.{Event, offer, send, arrive, lose, hear, lose-reply, tick, step, run}
+use Rattle.delivery_rules.specs.Model.{Event, offer, send, arrive, lose, hear, lose_reply, tick, step, run}
 use Rattle.delivery_rules.specs.Demand.{expire_once, Delivers}
 use Rattle.delivery_wrong.specs.Plain.{plain_offer, plain_send, plain_hear, plain_tick, plain_arrive, left_behind, used_again, covers_earlier, false_count}
 use Rattle.delivery_wrong.proofs.ByRun.{nth, segments, times, output, round, after, checked, breaks_safety, unsafe, breaks_at, breaks_recovery, unrecovered}
@@ -37,7 +37,7 @@ used_again_refused = unsafe used_again overwritten 0 refl
 -- two are delivered, the first ACK is lost and the second is heard: segment 0 has not been acknowledged, and is not sent again
 abbrev pub first_ack_lost : List Event
 first_ack_lost =
-    map offer (segments 0 2) ++ times 2 (send output ∷ []) ++ times 2 (arrive true output ∷ []) ++ lose-reply 0 ∷ hear ∷ []
+    map offer (segments 0 2) ++ times 2 (send output ∷ []) ++ times 2 (arrive true output ∷ []) ++ lose_reply 0 ∷ hear ∷ []
 
 pub covers_earlier_refused : Delivers covers_earlier → ⊥
 unfolding breaks_recovery breaks_at checked run step expire_once gone_with seen_reply seen_tick among_last plain_offer plain_send plain_hear plain_tick plain_arrive

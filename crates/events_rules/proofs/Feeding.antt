@@ -77,9 +77,9 @@ module _ (cs : List ℕ) (until i : ℕ) (p : Bool) (c : ℕ) (old : List ℕ) (
       }
 
   module _ (j : ℕ) (q : Bool) (x : ℕ) (out : List ℕ) (n : ℕ) (fed : Fed cs until i p c old j q x out) (h : j < until) (g : get_or cs j 0 < 1024)
-      (fits : length cs ≤ length out) (is : n ≡ packed (reading (get_or cs j 0) (disparity_of q))) (data-result : n % 2048 < 256) where
+      (fits : length cs ≤ length out) (is : n ≡ packed (reading (get_or cs j 0) (disparity_of q))) (data_result : n % 2048 < 256) where
     result : reading (get_or cs j 0) (disparity_of q) ≡ clean (data_symbol (n % 256)) (packed_disparity n)
-    result = sym (unpacked_reading (get_or cs j 0) (disparity_of q) (omega arith) (disparity_is q)) ∙ ap unpacked (sym is) ∙ unpacked_data n data-result
+    result = sym (unpacked_reading (get_or cs j 0) (disparity_of q) (omega arith) (disparity_is q)) ∙ ap unpacked (sym is) ∙ unpacked_data n data_result
 
     -- one byte more
     pub fed_one : Fed cs until i p c old (j + 1) (leb 2048 n) (crc_byte x (n % 256)) (set out j (262144 + n % 256))

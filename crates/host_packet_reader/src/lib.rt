@@ -1,4 +1,6 @@
 // What C calls of the packet reader, its state in 15 lent bytes.
+#![tactic(auto)]
+
 ghost use Rattle.std.specs.Prelude.{◌≡◌};
 ghost use Rattle.host_calls.specs.PacketCalls.{begins, Steps, steps};
 

@@ -27,9 +27,9 @@ module _ (bytes : List ℕ) (violation byte control : ℕ) where
     step_invalid h = simp (h, reader)
 
     module _ (small : violation ≤ 2) (other : violation ≡ 1 → ⊥) where
-      pub step-no-byte : 255 < byte → step_numbers bytes violation byte control ≡ refused_step (reader_in bytes) 1
+      pub step_no_byte : 255 < byte → step_numbers bytes violation byte control ≡ refused_step (reader_in bytes) 1
       unfolding step_numbers number_checks
-      step-no-byte h = simp (reader, le-ltb 2 violation small, ne_eqb violation 1 other, lt-ltb 255 byte h)
+      step_no_byte h = simp (reader, le-ltb 2 violation small, ne_eqb violation 1 other, lt-ltb 255 byte h)
 
       pub step_done : byte ≤ 255 → step_numbers bytes violation byte control ≡ step_of (reader_in bytes) (result_of violation byte control)
       unfolding step_numbers number_checks

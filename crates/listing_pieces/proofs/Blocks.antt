@@ -159,9 +159,9 @@ module _ (capture : List ℕ) (p : Reached) (ok : legal capture ≡ true) (k : k
           let c : q.reader ≡ after_of p.reader (readings_of cs p.disparity) = l.reader ∙ ap (after_of p.reader) readings in
           λ i. record { place = a i; events = b i; disparity = closes i; reader = c i }
 
-      pub block-is : (wrote q.at (Going (record { place = p.place + n; events = q.events; disparity = again; reader = q.reader })) ≡ done_says capture (Going p))
+      pub block_is : (wrote q.at (Going (record { place = p.place + n; events = q.events; disparity = again; reader = q.reader })) ≡ done_says capture (Going p))
           × (new ≡ piece_of capture (Going p) ++ drop (length (piece_of capture (Going p))) old)
-      block-is = (ap₂ wrote whole.0 (ap Going reached ∙ sym after), whole.1)
+      block_is = (ap₂ wrote whole.0 (ap Going reached ∙ sym after), whole.1)
 
 -- ---- the results are a block
 

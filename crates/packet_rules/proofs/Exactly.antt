@@ -29,11 +29,11 @@ fill_sound com_idles = ((refl, refl), ((refl, refl), ((refl, refl), ((refl, refl
 fill_sound (reply nack n h) = ((refl, refl), ((refl, refl), ((refl, refl), ((refl, refl), tt))))
 fill_sound (other t n h) = ((refl, refl), ((refl, refl), ((refl, refl), ((refl, refl), tt))))
 
-module _ (Among : List Symbol → List Said → Type 0) (among-sound : (ss : List Symbol) (es : List Said) → Among ss es → Sound es) where
+module _ (Among : List Symbol → List Said → Type 0) (among_sound : (ss : List Symbol) (es : List Said) → Among ss es → Sound es) where
   inside_sound : {bs : List ℕ} {ss : List Symbol} {es : List Said} → Inside Among bs ss es → Sound es
   inside_sound end = tt
   inside_sound (byte b i) = ((refl, refl), inside_sound i)
-  inside_sound (among {fs = fs} {gs = gs} {es = es} m i) = sound_append gs es (among-sound fs gs m) (inside_sound i)
+  inside_sound (among {fs = fs} {gs = gs} {es = es} m i) = sound_append gs es (among_sound fs gs m) (inside_sound i)
 
 priority_sound : {s : ℕ} {ss : List Symbol} {es : List Said} → PriorityLine s ss es → Sound es
 priority_sound (priority c g bs bad {es = es} hc hg one most i) =

@@ -133,7 +133,7 @@ module _ (s : ℕ) where
   -- ---- a packet's own bytes, with what may stand among them; v tells whether no priority packet is open
 
   module _ (Among : List Symbol → List Said → Type 0) (v : Bool)
-      (runs-among : (d : DataPacket) (p : PriorityPacket) → no_priority p ≡ v → Ok d p Free → (fs : List Symbol) (gs : List Said) → Among fs gs
+      (runs_among : (d : DataPacket) (p : PriorityPacket) → no_priority p ≡ v → Ok d p Free → (fs : List Symbol) (gs : List Said) → Among fs gs
       → Runs (at d p Free) fs gs (at d p Free)) where
     insides : {bs : List ℕ} {ss : List Symbol} {es : List Said} → Inside Among bs ss es → (d : DataPacket) (p : PriorityPacket)
         → no_priority p ≡ v → outside d p ≡ false → Room s p (length bs) → Ok d p Free
@@ -143,7 +143,7 @@ module _ (s : ℕ) where
         go (at d p Free) (at (fed_data d p b) (fed_priority p b) Free) (data_symbol b) (gave_byte b) ok
         (λ e. on_byte s d p e b o (room_full s p (length bs) room) ok)
         (λ ok1. insides i (fed_data d p b) (fed_priority p b) (fed_priority_lem p b ∙ n) (fed_outside d p b ∙ o) (room_less s p (length bs) b room) ok1)
-    insides (among {fs = fs} {gs = gs} m i) d p n o room ok = runs_append (runs-among d p n ok fs gs m) (insides i d p n o room ok)
+    insides (among {fs = fs} {gs = gs} m i) d p n o room ok = runs_append (runs_among d p n ok fs gs m) (insides i d p n o room ok)
 
     -- from the opening byte to the last of the CRC
     bodies : {bs : List ℕ} {ss : List Symbol} {es : List Said} → Inside Among bs ss es → (d : DataPacket) (p : PriorityPacket) (bad : Bool)

@@ -155,14 +155,14 @@ module _ (s : ℕ) where
   lmp_fill : (t n : ℕ) → (es : List Said) × Fill (SLP ∷ data_symbol t ∷ data_symbol n ∷ data_symbol (bit_xor t n) ∷ []) es
   lmp_fill t n =
       let typed = eqb t 0x20 || eqb t 0x21 in
-      by_test (is_reply t n) (λ e. a-reply (ltb-true n 16 (second_true typed (ltb n 16) e)) (first_true typed (ltb n 16) e))
+      by_test (is_reply t n) (λ e. a_reply (ltb-true n 16 (second_true typed (ltb n 16) e)) (first_true typed (ltb n 16) e))
       (λ e. (nothing ∷ nothing ∷ nothing ∷ nothing ∷ [], other t n e))
     where
       Some : ℕ → Type 0
       Some x = (es : List Said) × Fill (SLP ∷ data_symbol x ∷ data_symbol n ∷ data_symbol (bit_xor x n) ∷ []) es
 
-      a-reply : n < 16 → eqb t 0x20 || eqb t 0x21 ≡ true → Some t
-      a-reply h e =
+      a_reply : n < 16 → eqb t 0x20 || eqb t 0x21 ≡ true → Some t
+      a_reply h e =
           by_test (eqb t 0x20) (λ q. subst Some (sym (eqb-true t 0x20 q)) (nothing ∷ nothing ∷ nothing ∷ replied false n ∷ [], reply false n h))
           (λ q. subst Some (sym (eqb-true t 0x21 (subst (λ (x : Bool). x || eqb t 0x21 ≡ true) q e)))
           (nothing ∷ nothing ∷ nothing ∷ replied true n ∷ [], reply true n h))

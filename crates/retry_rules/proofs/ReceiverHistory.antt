@@ -105,17 +105,17 @@ judged s e r k channel bad n room h d =
       nack_number = λ _. d.expected;
     }))
     (λ t.
-    let not-next : k ≡ e % 16 → ⊥ = λ p. eqb-false k r.expected t (p ∙ sym d.expected) in
+    let not_next : k ≡ e % 16 → ⊥ = λ p. eqb-false k r.expected t (p ∙ sym d.expected) in
     by_cases P (among_last r.received r.expected k)
     (λ u. record {
-      delivers = (λ p. absurd (false_is_not_true p), λ p. absurd (not-next p.0));
+      delivers = (λ p. absurd (false_is_not_true p), λ p. absurd (not_next p.0));
       repeats = (λ _. eight.0 u, λ _. (refl, refl));
       ack_number = λ _. refl;
       delivers_acks = λ p. absurd (false_is_not_true p);
       nack_number = λ p. absurd (false_is_not_true p);
     })
     (λ u. record {
-      delivers = (λ p. absurd (false_is_not_true p), λ p. absurd (not-next p.0));
+      delivers = (λ p. absurd (false_is_not_true p), λ p. absurd (not_next p.0));
       repeats = (λ p. absurd (false_is_not_true (sym p.1)), λ p. absurd (false_is_not_true (sym u ∙ eight.1 p)));
       ack_number = λ p. absurd (false_is_not_true (sym p));
       delivers_acks = λ p. absurd (false_is_not_true p);

@@ -109,7 +109,7 @@ link_kept c n =
     both_true (eqb c.timer c.columns) (eqb c.expiries 0) (eq-eqb c.timer c.columns (omega arith))
     (eq-eqb c.expiries 0 (omega arith)))))
     (λ t.
-    let not-up = eqb-false c.link 1 t in
+    let not_up = eqb-false c.link 1 t in
     let down : c.link ≡ 2 = omega arith in
     both_true (is_down c) _ (eq-eqb c.link 2 down)
     (both_true (eqb c.expiries 3) _ (eq-eqb c.expiries 3 (omega arith))

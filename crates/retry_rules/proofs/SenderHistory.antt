@@ -177,14 +177,14 @@ module _ (s : Sender) (l : Ledger) (h : Honest s l) where
       let a = h.agrees in
       let u = is_sound s l h few in
       let lt : k < 16 = omega (arith, r.3) in
-      let not-oldest : k ≡ s.counters.oldest → ⊥ = λ p. recent_not_next l.released k r (p ∙ a.oldest) in
+      let not_oldest : k ≡ s.counters.oldest → ⊥ = λ p. recent_not_next l.released k r (p ∙ a.oldest) in
       let among : among_last s.counters.released s.counters.oldest k ≡ true =
       rw (a.released, a.oldest) ((last_eight l.released k lt).1 r) in
       ap (λ (x : Answered). x.sender) (reply_done s false k (record { sound = u; number_lt = lt }))
       ∙ ap (with_counters s)
       (heard_cases (λ (d : Counters). d ≡ s.counters) s.counters false k (λ _. refl)
       (λ _ z _. absurd (false_is_not_true z)) (λ _ z _. absurd (false_is_not_true z))
-      (λ _ _ p. absurd (not-oldest p)) (λ _ _ _ _. refl) (λ _ _ _ z. absurd (false_is_not_true (sym z ∙ among))))
+      (λ _ _ p. absurd (not_oldest p)) (λ _ _ _ _. refl) (λ _ _ _ z. absurd (false_is_not_true (sym z ∙ among))))
 
   by_history : (k : ℕ) → among_last s.counters.released s.counters.oldest k ≡ true → among_last (min l.released 8) (l.released % 16) k ≡ true
   by_history k z =
@@ -248,7 +248,7 @@ module _ (s : Sender) (l : Ledger) (h : Honest s l) where
 pub hears_by_history : HearsByHistory our_sender
 hears_by_history =
     record {
-      sends-stored = λ t s p q cs. going _ _ (from_fresh t s p q cs);
+      sends_stored = λ t s p q cs. going _ _ (from_fresh t s p q cs);
       ignores = λ t s p q cs k lent output few w r.
           ap (λ (x : Sender). sender_tells x (send lent output)) (ignored _ _ (from_fresh t s p q cs) k few w r);
       goes_back = λ t s p q cs. goes_back_to _ _ (from_fresh t s p q cs);

@@ -23,16 +23,16 @@ module _ (P : Counters → Type 0) (c : Counters) where
       → (0 < c.outstanding → nack ≡ false → (k ≡ c.oldest → ⊥) → among_last c.released c.oldest k ≡ false → P (to_oldest c))
       → P (heard c nack k)
   unfolding heard acked nacked
-  heard_cases nack k idle nack-oldest nack-other ack-oldest ack-last ack-other =
+  heard_cases nack k idle nack_oldest nack_other ack_oldest ack_last ack_other =
       by_cases P (eqb c.outstanding 0) (λ t. idle (eqb-true c.outstanding 0 t))
       (λ t.
       let some : 0 < c.outstanding = omega (arith, eqb-false c.outstanding 0 t) in
       by_cases P nack
-      (λ u. by_cases (λ d. P (to_oldest d)) (eqb k c.oldest) (λ e. nack-oldest some u (eqb-true k c.oldest e))
-      (λ e. nack-other some u (eqb-false k c.oldest e)))
-      (λ u. by_cases P (eqb k c.oldest) (λ e. ack-oldest some u (eqb-true k c.oldest e))
-      (λ e. by_cases P (among_last c.released c.oldest k) (ack-last some u (eqb-false k c.oldest e))
-      (ack-other some u (eqb-false k c.oldest e)))))
+      (λ u. by_cases (λ d. P (to_oldest d)) (eqb k c.oldest) (λ e. nack_oldest some u (eqb-true k c.oldest e))
+      (λ e. nack_other some u (eqb-false k c.oldest e)))
+      (λ u. by_cases P (eqb k c.oldest) (λ e. ack_oldest some u (eqb-true k c.oldest e))
+      (λ e. by_cases P (among_last c.released c.oldest k) (ack_last some u (eqb-false k c.oldest e))
+      (ack_other some u (eqb-false k c.oldest e)))))
 
   -- nothing outstanding; the timer runs; expiry one or two; the third
   pub ticked_cases :

@@ -70,7 +70,7 @@ pub record TakesOffers (I : SenderEnd) : Type 0 where
 -- a sender by the segments that went out, were released and are stored: what a send tells next, with a long enough output
 pub record HearsByHistory (I : SenderEnd) : Type 0 where
   -- the send point is never before the oldest nor past what is stored: each segment that goes out is a stored one
-  pub sends-stored :
+  pub sends_stored :
       (t s : ℕ) → time_allowed t ≡ true → size_allowed s ≡ true → (cs : List SenderCall) (lent output : ℕ)
       → let l = ledger_after I (I.fresh t s) (blank t s) cs in
       let a = I.tells (sender_after I (I.fresh t s) cs) (send lent output) in

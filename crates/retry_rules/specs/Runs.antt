@@ -38,7 +38,7 @@ pub record Runs : Type 0 where
   pub resend : (sent 1 (hears true 5 (ticks 1 (started 3)))).counters.timer ≡ 2
   -- the third expiry says that the link went down and is not refused; count 3, timer at its start, send point unmoved
   pub third : ((tick_of last_chance).refusal ≡ 0) × ((tick_of last_chance).fell ≡ true)
-  pub third-leaves :
+  pub third_leaves :
       ((ticks 1 last_chance).counters.expiries ≡ 3) × ((ticks 1 last_chance).counters.timer ≡ 1) × ((ticks 1 last_chance).counters.point ≡ 1)
   -- the next call is refused with 7, and a reset is not
   pub down : (tick_of (ticks 1 last_chance)).refusal ≡ 7

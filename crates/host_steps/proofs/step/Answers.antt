@@ -5,7 +5,7 @@ use Rattle.packet_rules.specs.declared.Reader.{Reader}
 use Rattle.character_rules.specs.Answers.{invalid}
 use Rattle.packet_rules.specs.Step.{refused_step, step_of}
 use Rattle.host_rules.specs.Stepping.{result_of}
-use Rattle.host_rules.proofs.Stepping.{step_no_reader, step_no_violation, step_invalid, step-no-byte, step_done}
+use Rattle.host_rules.proofs.Stepping.{step_no_reader, step_no_violation, step_invalid, step_no_byte, step_done}
 use Rattle.host_steps.proofs.step.Goals as goal
 
 pub returns-then-not-is_reader : goal.returns-then-not-is_reader
@@ -32,7 +32,7 @@ pub returns-then-byte-gt255 : goal.returns-then-byte-gt255
 returns-then-byte-gt255 c =
     let a = c.args in
     c.refused-then-byte-gt255.ensures ∙ ap (λ (r : Reader). refused_step r 1) c.reader_in-r.ensures ∙ sym
-    (step-no-byte a.bytes a.violation a.byte a.control
+    (step_no_byte a.bytes a.violation a.byte a.control
     (sym c.is_reader.ensures ∙ c.if-not-is_reader.false)
     c.if-violation-gt2.false c.if-violation-eq1.false c.if-byte-gt255.true)
 

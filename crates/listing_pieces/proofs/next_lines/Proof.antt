@@ -14,7 +14,7 @@ use Rattle.capture_rules.proofs.Packing.{legal_size}
 use Rattle.listing_rules.proofs.Whole.{rule_events}
 use Rattle.listing_lines.proofs.Lines.{block_listed}
 use Rattle.listing_pieces.proofs.Places.{count_low}
-use Rattle.listing_pieces.proofs.Blocks.{taken_low, block_low, block_fits, block_takes, never_refused, block-is}
+use Rattle.listing_pieces.proofs.Blocks.{taken_low, block_low, block_fits, block_takes, never_refused, block_is}
 use borrow.Author.Rules.{rules}
 use Rattle.listing_pieces.proofs.next_lines.Statement.{statement}
 use Rattle.listing_pieces.proofs.next_lines.Tie as tie
@@ -100,7 +100,7 @@ returns c =
     let d = c.before.before.before.before.before.disparity in
     let events = rule_events [] s.args.p s.requires.1 in
     let few = count_low s.args.capture.now s.requires.0 in
-    block-is s.args.capture.now s.args.p s.requires.0 s.requires.1 s.requires.2 n e taken.new.1.1.1.0
+    block_is s.args.capture.now s.args.p s.requires.0 s.requires.1 s.requires.2 n e taken.new.1.1.1.0
     (replicate 64 0) (replicate 64 0) run.new.1.1.0 _ run.result (omega arith) taken.ensures
     (to_z-of_z {w = w32} {z = s.args.p.disparity}
     (record { sfits = c.before.before.before.before.before.before.before.before.before.struct_told.given.1.1.0.1 }))
