@@ -1,5 +1,5 @@
 /* The same jobs through the archive and in plain C. bench list: the rows. bench check: every form of a row must leave the same outputs. bench run ROW FORM N: N
- * rounds, for counting. bench time: seconds. One translation unit, since on Arm one object is linked. */
+ * rounds, for counting. bench time: seconds. One translation unit. */
 #include "plain/characters.c"
 #include "plain/captures.c"
 #include "plain/packet_writer.c"

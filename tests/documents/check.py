@@ -1,10 +1,11 @@
 #!/usr/bin/env python3
 """Every name that a document puts between backticks is there: a crate, a file, an edit, or a word of the sources.
 
-Fails, naming document, line and name. A row that names a theorem, a definition or an edit that is gone, or an edit or a file
+Fails, naming document, line and name. A row that names a theorem, a definition, an edit or a file that is gone, or an edit or a file
 of a crate that another crate has, is found here; that the named thing says what the row says is for the reader. Fails too where docs/TRUST.md counts a crate's lines of definition
-otherwise than they are, or has no row for a crate of rules.
+otherwise than they are, or has no row for a crate of rules. That a name and a path that are gone are found is tried first.
 """
+import os
 import pathlib
 import re
 import sys
@@ -16,11 +17,13 @@ SOURCES = {".antt", ".rt", ".c", ".h", ".cpp", ".py", ".sh", ".edit", ".txt", ""
 
 
 def tracked():
-    """Every file of the tree but the documents and what is built."""
-    for path in ROOT.rglob("*"):
-        parts = path.relative_to(ROOT).parts
-        if path.is_file() and parts[0] not in ("target", ".git", "docs") and path.name != "README.md":
-            yield path
+    """Every file of the tree but the documents, what is built, and the list of names that were turned into others."""
+    for at, folders, files in os.walk(ROOT):
+        parts = pathlib.Path(at).relative_to(ROOT).parts
+        folders[:] = [f for f in folders if not (f in ("target", ".git", "docs") and not parts or f == "out" and parts[:1] == ("crates",) or f == "__pycache__")]
+        for name in files:
+            if name not in ("README.md", "respell.txt"):
+                yield pathlib.Path(at, name)
 
 
 def words():
@@ -56,14 +59,16 @@ def missing(span, known):
 
 
 def astray(span):
-    """Whether a span names, by its crate, an edit or a file of specs/ or proofs/ that this crate does not have."""
-    path = pathlib.Path(span)
+    """Whether a span names a file of the tree that is not there, or, by its crate, an edit or a file of specs/ or proofs/ that this crate does not have."""
+    if re.fullmatch(r"(docs|tests|tools|bench|include|examples|\.ci)/[\w/.-]+", span):
+        return "NAME" not in span and not (ROOT / span).exists()
+    path = pathlib.Path(span.removeprefix("crates/"))
     crate = ROOT / "crates" / path.parts[0] if path.parts else ROOT
-    if not re.fullmatch(r"[\w/.]+", span) or len(path.parts) < 2 or not crate.is_dir():
+    if not re.fullmatch(r"[\w/.-]+", span) or len(path.parts) < 2 or not crate.is_dir():
         return False
     there = crate.joinpath(*path.parts[1:])
     edit = crate / "must-fail" / f"{path.parts[-1]}.edit"
-    return not (there.exists() or there.with_suffix(".antt").exists() or (len(path.parts) == 2 and edit.exists()))
+    return not (there.exists() or there.with_suffix(".antt").exists() or there.with_suffix(".edit").exists() or (len(path.parts) == 2 and edit.exists()))
 
 
 def definitions(crate):
@@ -83,12 +88,21 @@ def counted():
             yield f"docs/TRUST.md: no row for {crate.name}, {lines} lines"
 
 
+def self_test(known):
+    """what is there is not told, and what is gone is"""
+    there = ["crates/symbol/specs/Symbols", "symbol/proofs/Twelve.antt", "crates/symbol/must-fail/com_is_k28_1", "symbol/com_is_k28_1", "docs/TRUST.md", "crates/C/must-fail/e.edit"]
+    gone = ["crates/symbol/specs/Nowhere", "symbol/proofs/Disparities", "crates/symbol/must-fail/packs_52429_characters", "docs/NOWHERE.md", "crates/symbol/proofs/is_twelve/Nowhere.antt"]
+    assert not any(astray(span) for span in there) and all(astray(span) for span in gone)
+    assert not list(missing("twelve", known)) and all(list(missing(f"{a}{b}", known)) for a, b in (("no", "-such-name"), ("no", "_such_name"), ("No", "SuchName")))
+
+
 def main():
     known, faults = words(), list(counted())
+    self_test(known)
     for name in DOCUMENTS:
         for number, span in spans((ROOT / name).read_text(encoding="utf-8")):
             faults += [f"{name}:{number}: `{span}`: {token} is nowhere in the tree" for token in missing(span, known)]
-            faults += [f"{name}:{number}: `{span}` is not in that crate"] if astray(span) else []
+            faults += [f"{name}:{number}: `{span}` is not there, or not in that crate"] if astray(span) else []
     print("\n".join(faults) if faults else "documents: every name that they give is there")
     return 1 if faults else 0
 

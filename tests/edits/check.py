@@ -1,44 +1,47 @@
 #!/usr/bin/env python3
 """Each must-fail edit was refused because a fact no longer holds, and not because the proof no longer fits the code.
 
-Reads the logs that the gate's run of the edits has left under target/must-fail/. Fails, naming the edit and its first error,
-where there is no log, where the first error speaks of names, shapes or syntax, or where it is of no known kind.
-That it fails on such logs is tried first.
+check.py [LOG]: reads what `rt ci` said of the edits, which the gate leaves in target/ci.log (`rt must-fail` says it in the same words). Fails, naming the
+edit and what was said of it, where nothing was said, where rt did not refuse it, or refused it only by a limit or for a name that is gone, where the
+error speaks of names, shapes or syntax, or where it is of no known kind. That it fails on such words is tried first.
 """
 import pathlib
 import re
 import sys
 
 ROOT = pathlib.Path(__file__).resolve().parents[2]
-FIRST = re.compile(r"error: |it is not proved that ")
+SAID = re.compile(r"^rt: must-fail (\w+)/([\w.-]+)\.edit: (.*)$", re.M)
+REFUSED = re.compile(r"refused, as it must be(?:: (.*))?")
 # The proof, or the source, is no longer well made: this says nothing about the wrong answer.
 SHAPE = re.compile(
-    r"can be named from here|not in scope|was not admitted|argument patterns|syntax|unexpected|parse|no such|cannot find"
-    r"|duplicate|unknown|mismatched|has no field|not covered|too many|too few|hole"
+    r"can be named|not in scope|was not admitted|argument patterns|syntax|unexpected|parse|no such|cannot find|no clause|write the clause"
+    r"|duplicate|unknown|mismatched|has no (field|`)|is no name|not covered|too many|too few|hole|\berror\["
 )
 # A walk by hand no longer follows the code: it looks for a local, or a place in one, that the edited code has elsewhere.
-MISFIT = re.compile(r"prog\.Wp\.spotOf|mir\.MapTy\.mapLocal|code\.Mir\.table")
-# A fact that the proof needs and that the wrong answer does not give.
+MISFIT = re.compile(r"prog\.Wp\.spot_?[oO]f|mir\.MapTy\.map_?[lL]ocal|code\.Mir\.table")
+# A fact that the proof needs and that the wrong answer does not give. rt shows the first 160 characters.
 FACT = re.compile(
-    r"it is not proved that|expected type|the two types|the two sides|give a proof of that|`search`: no proof of|omega"
+    r"it is not proved that|expected type|as printed, the|computed as far as they go|the two types|the two sides|give a proof of that"
+    r"|`search`: no proof of|omega|the goal does not follow"
     r"|no equation of the list has an instance in the goal"  # the goal is the fact, and nothing that held before proves it
 )
 
 
-def first_error(log):
-    """The first error of a log, its place taken off."""
-    for line in log.split("\n"):
-        if FIRST.search(line):
-            return re.sub(r"^\S*:\d+:\d+: ", "", re.sub(r"^note: ", "", line)).strip()
-    return ""
+def first_error(said):
+    """The error that rt names, its place taken off."""
+    refused = REFUSED.fullmatch(said)
+    return re.sub(r"^\S*:\d+:\d+: ", "", re.sub(r"^note: ", "", refused.group(1) or "")).strip() if refused else ""
 
 
-def fault(log):
-    """What is wrong with an edit that left this log; nothing if it was refused by a fact."""
-    error = first_error(log)
+def fault(said):
+    """What is wrong with an edit of which rt said this; nothing if it was refused by a fact."""
+    if not REFUSED.fullmatch(said):
+        return f"not refused, or not by an error: {said[:200]}"
+    error = first_error(said)
     if not error:
-        return "its log has no error"
-    if SHAPE.search(re.sub(r"`[^`]*`(?! shows it as)", "`..`", error).replace("shows it as a hole's goal", "")):
+        return "rt names no error"
+    words = re.sub(r"`[^`]*$", "`..`", re.sub(r"`[^`]*`(?! shows it as)", "`..`", error).replace("shows it as a hole's goal", ""))
+    if SHAPE.search(words) or re.search(r"has no `", error):
         return f"refused by its shape: {error[:160]}"
     if MISFIT.search(error):
         return f"refused because the walk no longer follows the code: {error[:160]}"
@@ -54,33 +57,57 @@ def edits():
 
 def self_test():
     bad = [
-        "",
-        "a.antt:1:1: error: module `p.Tie` has no `Need-returns-4` that can be named from here",
-        "a.antt:1:1: error: `returns`: `x` is not in scope: add a `use`",
-        "a.rt:1:1: error: something nobody has seen",
-        "a.antt:1:1: error: `walk`: as printed, the two types first differ where one has `((prog.Wp.spotOf {M = M} record {op = .op} 6) .2)`",
+        "NOT REFUSED: the crate is still proved with this edit (one that means the same as before cannot be refused: remove it)",
+        "BAD EDIT: an 'old:' text is in src/lib.rt 0 times, and not once",
+        "BAD EDIT: the prover cannot read the edited text, so no contract was tried: specs/Symbols.antt:9:3: error: `x` is not in scope",
+        "NOT TRIED: its check was killed, most likely for memory, so nothing is known of it: run this again",
+        "refused, as it must be (only because a proof file names what the edit took away, so this says little of the contract: change a value and keep the names): ./proofs/A.antt:1:1: error: x",
+        "refused, as it must be (only by a limit of the prover, which gave no verdict, so this says less of the contract: choose a change that it refuses sooner): a.antt:1:1: error: the two types",
+        "refused, as it must be",
+        "refused, as it must be: ./proofs/A.antt:1:1: error: module `p.Tie` has no `Need-returns-4` that can be named from here",
+        "refused, as it must be: ./proofs/A.antt:1:1: error: `returns`: `x` is not in scope: add a `use`",
+        "refused, as it must be: ./proofs/A.antt:1:1: error: `f`: no clause covers 2 cases: write the clause `f (suc n) = ..`",
+        "refused, as it must be: src/lib.rt:1:1: error: something nobody has seen",
+        "refused, as it must be: src/lib.rt:9:4: error[E0308]: mismatched types",
+        "refused, as it must be: ./proofs/A.antt:1:1: error: `walk`: as printed, the two types first differ where one has `((prog.Wp.spot_of {M = M} record {op = .op} 6).1)`",
     ]
     good = [
-        "a.antt:1:1: error: `returns`: as printed, the two types differ only where one has `1` (expected)",
-        "note: a.rt:97:5: it is not proved that what the function ensures holds when it returns (`returns`)",
-        "a.antt:8:26: error: `walk`: as printed, the two sides first differ where one has `mir.Val.WT` (left), at the start, and the other has `mir.Val.WTs`",
-        "a.antt:9:13: error: `returns`: give a proof of that as the last argument, `simp L t` (`simp L ?` shows it as a hole's goal), or add what is missing",
+        "refused, as it must be: ./proofs/is_twelve/Answers.antt:24:5: error: `returns`: as printed, the two types differ only where one has `253` (expected), right after `mathlib.Core.Path.◌≡◌",
+        "refused, as it must be: ./proofs/Laws.antt:21:26: error: `hands_back`: computed as far as they go, the two types differ only where one has `new` (expected) and the other has `old` (fou",
+        "refused, as it must be: ./proofs/Every.antt:21:21: error: `every-symbol`: expected type `T (f record {byte = b})`, but this has type `T (f (control_symbol b))`",
+        "refused, as it must be: note: src/lib.rt:189:17: it is not proved that what the function ensures holds when it returns (`returns-then-byte`); the facts known there allow values at whic",
+        "refused, as it must be: note: src/lib.rt:158:5: it is not proved that what the function ensures holds when it returns (`returns`); `search` gave up at one of its limits",
+        "refused, as it must be: a.antt:8:26: error: `walk`: as printed, the two sides first differ where one has `mir.Val.WT` (left), at the start, and the other has `mir.Val.WTs`",
+        "refused, as it must be: a.antt:9:13: error: `returns`: give a proof of that as the last argument, `simp L t` (`simp L ?` shows it as a hole's goal), or add what is missing",
     ]
-    assert all(fault(log) for log in bad) and not any(fault(log) for log in good)
+    assert all(fault(said) for said in bad) and not any(fault(said) for said in good)
+    log = "rt: a proved\nrt: must-fail a/b.edit: " + good[0] + "\nrt: must-fail a/c.d.edit: " + bad[0] + "\n"
+    assert judged(log, [("a", "b"), ("a", "c.d"), ("a", "e")]) == [f"a/c.d: {fault(bad[0])}", "a/e: it was not tried"]
+    assert judged(log + log, [("a", "b")]) == ["a/b: rt says 2 things of it", "a/c.d: rt speaks of it, and it is not there"]
 
 
-def main():
+def judged(log, wanted):
+    """The faults of the edits that are there, by a log."""
+    said, faults = {}, []
+    for crate, label, what in SAID.findall(log):
+        said.setdefault((crate, label), []).append(what)
+    for edit in wanted:
+        found = said.pop(edit, [])
+        problem = "it was not tried" if not found else f"rt says {len(found)} things of it" if len(found) > 1 else fault(found[0])
+        faults += [f"{'/'.join(edit)}: {problem}"] if problem else []
+    return faults + [f"{'/'.join(edit)}: rt speaks of it, and it is not there" for edit in said]
+
+
+def main(log):
     self_test()
-    count, faults = 0, []
-    for crate, label in edits():
-        log = ROOT / "target" / "must-fail" / crate / label / ".log"
-        problem = fault(log.read_text(encoding="utf-8", errors="replace")) if log.exists() else "it was not tried"
-        count += 1
-        if problem:
-            faults.append(f"{crate}/{label}: {problem}")
-    print("\n".join(faults) if faults else f"edits: {count} wrong answers, each refused by a fact that no longer holds")
-    return 1 if faults or count == 0 else 0
+    if not log.exists():
+        print(f"edits: there is no {log}: the gate writes it, from what rt ci says")
+        return 1
+    wanted = list(edits())
+    faults = judged(log.read_text(encoding="utf-8", errors="replace"), wanted)
+    print("\n".join(faults) if faults else f"edits: {len(wanted)} wrong answers, each refused by a fact that no longer holds")
+    return 1 if faults or not wanted else 0
 
 
 if __name__ == "__main__":
-    sys.exit(main())
+    sys.exit(main(pathlib.Path(sys.argv[1]) if len(sys.argv) > 1 else ROOT / "target" / "ci.log"))

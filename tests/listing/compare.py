@@ -12,7 +12,7 @@ from generate import captures
 from reference import listing
 
 ROOT = os.path.join(os.path.dirname(os.path.abspath(__file__)), "..", "..")
-COMMAND = [os.path.join(ROOT, "tools", "run.sh"), os.path.join(ROOT, "target", "bin", "list")]
+COMMAND = [os.path.join(ROOT, "crates", "list", "out", "list")]
 
 
 def run(capture):
@@ -32,12 +32,15 @@ def run_slowly(capture):
 def compare(capture, printed):
     if printed == listing(capture):
         return printed.count("\n")
+    os.makedirs(os.path.join(ROOT, "target"), exist_ok=True)
     with open(os.path.join(ROOT, "target", "failed.capture"), "wb") as file:
         file.write(capture)
     sys.exit("listing differs; the capture is target/failed.capture")
 
 
 def main(count, seed):
+    if not os.access(COMMAND[0], os.X_OK):
+        sys.exit("listing: there is no crates/list/out/list: rt ci builds it, and so does list.sh")
     for name in sorted(glob.glob(os.path.join(ROOT, "examples", "captures", "*.capture"))):
         with open(name, "rb") as file, open(name.replace(".capture", ".listing")) as expected:
             capture = file.read()
