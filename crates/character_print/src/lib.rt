@@ -1,27 +1,27 @@
 // What the programs that try the characters print alike. Nothing is returned or lent here: what is printed is outside of what is proved.
+#![tactic(auto)]
+
+use std::io;
 use symbol::Symbol;
 
-pub fn space() {
-    io::write_all(1, &[b' ']);
+pub fn space(rt: &impl Print) -> io::Result<()> {
+    print!(rt; " ")
 }
 
-pub fn new_line() {
-    io::write_all(1, &[b'\n']);
+pub fn new_line(rt: &impl Print) -> io::Result<()> {
+    println!(rt)
 }
 
 // Dx.y or Kx.y
-pub fn print_name(s: Symbol) {
+pub fn print_name(rt: &impl Print, s: Symbol) -> io::Result<()> {
     if s.control {
-        io::write_all(1, &[b'K']);
+        print!(rt; "K")?;
     } else {
-        io::write_all(1, &[b'D']);
+        print!(rt; "D")?;
     }
-    io::print_decimal(1, (s.byte % 32) as u64);
-    io::write_all(1, &[b'.']);
-    io::print_decimal(1, (s.byte / 32) as u64);
+    print!(rt; "{}.{}", s.byte % 32, s.byte / 32)
 }
 
-pub fn print_refusal(number: u8) {
-    io::write_all(1, b"refused ");
-    io::print_decimal(1, number as u64);
+pub fn print_refusal(rt: &impl Print, number: u8) -> io::Result<()> {
+    print!(rt; "refused {number}")
 }

@@ -1,54 +1,58 @@
 // Reads each of 1,024 characters at both disparities, one at a time; then all of them as one run from -1; then what is out of range.
+#![tactic(auto)]
+
 use character_print::{new_line, print_name, print_refusal, space};
 use character_rules::{Decoded, RunRead};
+use std::io;
 
-fn print_disparity(d: i32) {
+fn print_disparity(rt: &impl Print, d: i32) -> io::Result<()> {
     if d == 1 {
-        io::write_all(1, b"+1");
+        print!(rt; "+1")
     } else {
         if d == -1 {
-            io::write_all(1, b"-1");
+            print!(rt; "-1")
         } else {
-            io::write_all(1, b"none");
+            print!(rt; "none")
         }
     }
 }
 
-fn print_result(res: Decoded) {
+fn print_result(rt: &impl Print, res: Decoded) -> io::Result<()> {
     match res {
         Decoded::Clean(s, d) => {
-            io::write_all(1, b"clean ");
-            print_name(s);
-            space();
-            print_disparity(d);
+            print!(rt; "clean ")?;
+            print_name(rt, s)?;
+            space(rt)?;
+            print_disparity(rt, d)
         }
         Decoded::WrongDisparity(s, d) => {
-            io::write_all(1, b"wrong ");
-            print_name(s);
-            space();
-            print_disparity(d);
+            print!(rt; "wrong ")?;
+            print_name(rt, s)?;
+            space(rt)?;
+            print_disparity(rt, d)
         }
         Decoded::Invalid(d) => {
-            io::write_all(1, b"invalid ");
-            print_disparity(d);
+            print!(rt; "invalid ")?;
+            print_disparity(rt, d)
         }
-        Decoded::Refused(number) => print_refusal(number),
+        Decoded::Refused(number) => print_refusal(rt, number),
     }
 }
 
-fn print_reading(c: u32, d: i32) {
-    io::print_decimal(1, c as u64);
-    space();
-    print_result(character_reader::read(c, d));
-    new_line();
+fn print_reading(rt: &impl Print, c: u32, d: i32) -> io::Result<()> {
+    print!(rt; "{c}")?;
+    space(rt)?;
+    print_result(rt, character_reader::read(c, d))?;
+    new_line(rt)
 }
 
-fn print_all(d: i32) {
+fn print_all(rt: &impl Print, d: i32) -> io::Result<()> {
     let mut c = 0u32;
     while c < 1024 {
-        print_reading(c, d);
+        print_reading(rt, c, d)?;
         c += 1;
     }
+    Ok(())
 }
 
 // The characters 0 to 1,023 in order.
@@ -62,35 +66,36 @@ fn all_characters() -> [u16; 1024] {
     cs
 }
 
-fn print_end(end: RunRead) {
+fn print_end(rt: &impl Print, end: RunRead) -> io::Result<()> {
     match end {
         RunRead::Read(d) => {
-            io::write_all(1, b"run ");
-            print_disparity(d);
+            print!(rt; "run ")?;
+            print_disparity(rt, d)?;
         }
         RunRead::Refused(number) => {
-            io::write_all(1, b"run ");
-            print_refusal(number);
+            print!(rt; "run ")?;
+            print_refusal(rt, number)?;
         }
     }
-    new_line();
+    new_line(rt)
 }
 
-fn print_results(results: &[u16; 1024]) {
+fn print_results(rt: &impl Print, results: &[u16; 1024]) -> io::Result<()> {
     let mut i = 0usize;
     while i < 1024 {
-        print_result(character_reader::unpack_result(results[i]));
-        new_line();
+        print_result(rt, character_reader::unpack_result(results[i]))?;
+        new_line(rt)?;
         i += 1;
     }
+    Ok(())
 }
 
 // One run of all characters.
-fn print_long_run() {
+fn print_long_run(rt: &impl Print) -> io::Result<()> {
     let cs = all_characters();
     let mut results = [0u16; 1024];
-    print_end(run_reader::read_run(&cs, -1, &mut results));
-    print_results(&results);
+    print_end(rt, run_reader::read_run(&cs, -1, &mut results))?;
+    print_results(rt, &results)
 }
 
 fn wide(n: u16) -> u64 {
@@ -98,35 +103,35 @@ fn wide(n: u16) -> u64 {
 }
 
 // A run into an output of three numbers, which stood at 7 8 9; and what the output holds then.
-fn print_short_run(cs: &[u16], d: i32) {
+fn print_short_run(rt: &impl Print, cs: &[u16], d: i32) -> io::Result<()> {
     let mut out = [7u16, 8, 9];
-    print_end(run_reader::read_run(cs, d, &mut out));
-    io::print_decimal(1, wide(out[0]));
-    space();
-    io::print_decimal(1, wide(out[1]));
-    space();
-    io::print_decimal(1, wide(out[2]));
-    new_line();
+    print_end(rt, run_reader::read_run(cs, d, &mut out))?;
+    print!(rt; "{}", wide(out[0]))?;
+    space(rt)?;
+    print!(rt; "{}", wide(out[1]))?;
+    space(rt)?;
+    print!(rt; "{}", wide(out[2]))?;
+    new_line(rt)
 }
 
 // Too long for the output; from no disparity; with a character out of range; and two characters, which are read.
-fn print_short_runs() {
-    print_short_run(&[0u16, 1, 2, 3], -1);
-    print_short_run(&[0u16, 1, 2], 0);
-    print_short_run(&[0u16, 1, 1024], 1);
-    print_short_run(&[0u16, 1], 1);
+fn print_short_runs(rt: &impl Print) -> io::Result<()> {
+    print_short_run(rt, &[0u16, 1, 2, 3], -1)?;
+    print_short_run(rt, &[0u16, 1, 2], 0)?;
+    print_short_run(rt, &[0u16, 1, 1024], 1)?;
+    print_short_run(rt, &[0u16, 1], 1)
 }
 
-fn main() {
-    print_all(-1);
-    print_all(1);
-    print_long_run();
-    print_short_runs();
-    print_reading(1024, -1);
-    print_reading(4294967295, 1);
-    print_reading(0, 0);
-    print_reading(0, 2);
-    print_reading(0, -2);
-    print_reading(1023, -2147483648);
-    print_reading(1024, 2147483647);
+fn main(rt: HostRuntime) -> io::Result<()> {
+    print_all(&rt, -1)?;
+    print_all(&rt, 1)?;
+    print_long_run(&rt)?;
+    print_short_runs(&rt)?;
+    print_reading(&rt, 1024, -1)?;
+    print_reading(&rt, 4294967295, 1)?;
+    print_reading(&rt, 0, 0)?;
+    print_reading(&rt, 0, 2)?;
+    print_reading(&rt, 0, -2)?;
+    print_reading(&rt, 1023, -2147483648)?;
+    print_reading(&rt, 1024, 2147483647)
 }

@@ -1,17 +1,21 @@
 // Writes every code group: the name, the octet, and the character that the writer gives at -1 and at +1, in blocks; and what each reads back as.
 // Then what writing each of 256 control bytes is refused with, and what disparities that are none are.
+#![tactic(auto)]
+
 use character_print::{new_line, print_name, print_refusal, space};
 use character_rules::{Decoded, Encoded};
+use std::io;
 use symbol::Symbol;
 
 // The lowest bits of a number, the highest first.
-fn print_bits(n: u16, width: u16) {
+fn print_bits(rt: &impl Print, n: u16, width: u16) -> io::Result<()> {
     let mut left = width;
     while 0 < left {
         left -= 1;
         let bit = (n >> (left % 16)) % 2;
-        io::write_all(1, &[b'0' + (bit as u8)]);
+        print!(rt; "{bit}")?;
     }
+    Ok(())
 }
 
 // The character that reads clean as a symbol at a disparity.
@@ -29,7 +33,7 @@ fn find(s: Symbol, disparity: i32) -> u16 {
 }
 
 // The two blocks of a symbol's code group at a disparity. K28.7 is not written, and is found by reading.
-fn print_column(s: Symbol, disparity: i32) {
+fn print_column(rt: &impl Print, s: Symbol, disparity: i32) -> io::Result<()> {
     let c = match character_writer::write(s, disparity) {
         Encoded::Written {
             character,
@@ -37,112 +41,106 @@ fn print_column(s: Symbol, disparity: i32) {
         } => character,
         Encoded::Refused(_) => find(s, disparity),
     };
-    print_bits(c / 16, 6);
-    space();
-    print_bits(c, 4);
-    space();
+    print_bits(rt, c / 16, 6)?;
+    space(rt)?;
+    print_bits(rt, c, 4)?;
+    space(rt)
 }
 
 // What was written at a disparity, read there again: the name, where it is clean with the closing disparity that the writer gave.
-fn print_back(s: Symbol, disparity: i32) {
+fn print_back(rt: &impl Print, s: Symbol, disparity: i32) -> io::Result<()> {
     match character_writer::write(s, disparity) {
         Encoded::Written {
             character,
             disparity: closing,
-        } => print_read(character, disparity, closing),
-        Encoded::Refused(number) => print_refusal(number),
+        } => print_read(rt, character, disparity, closing),
+        Encoded::Refused(number) => print_refusal(rt, number),
     }
 }
 
-fn print_read(c: u16, disparity: i32, closing: i32) {
+fn print_read(rt: &impl Print, c: u16, disparity: i32, closing: i32) -> io::Result<()> {
     match character_reader::read(c as u32, disparity) {
         Decoded::Clean(s, after) => {
             if after == closing {
-                print_name(s);
+                print_name(rt, s)
             } else {
-                io::write_all(1, b"another disparity");
+                print!(rt; "another disparity")
             }
         }
-        Decoded::WrongDisparity(_, _) => {
-            io::write_all(1, b"wrong disparity");
-        }
-        Decoded::Invalid(_) => {
-            io::write_all(1, b"invalid");
-        }
-        Decoded::Refused(number) => print_refusal(number),
+        Decoded::WrongDisparity(_, _) => print!(rt; "wrong disparity"),
+        Decoded::Invalid(_) => print!(rt; "invalid"),
+        Decoded::Refused(number) => print_refusal(rt, number),
     }
 }
 
-fn print_group(s: Symbol) {
-    print_name(s);
-    space();
-    io::print_decimal(1, s.byte as u64);
-    space();
-    print_column(s, -1);
-    print_column(s, 1);
-    print_back(s, -1);
-    space();
-    print_back(s, 1);
-    new_line();
+fn print_group(rt: &impl Print, s: Symbol) -> io::Result<()> {
+    print_name(rt, s)?;
+    space(rt)?;
+    print!(rt; "{}", s.byte)?;
+    space(rt)?;
+    print_column(rt, s, -1)?;
+    print_column(rt, s, 1)?;
+    print_back(rt, s, -1)?;
+    space(rt)?;
+    print_back(rt, s, 1)?;
+    new_line(rt)
 }
 
-fn main() {
+fn main(rt: HostRuntime) -> io::Result<()> {
     let mut y = 0u8;
     while y < 8 {
-        print_group(Symbol::control(y * 32 + 28));
+        print_group(&rt, Symbol::control(y * 32 + 28))?;
         y += 1;
     }
-    print_group(Symbol::SLP);
-    print_group(Symbol::SUP);
-    print_group(Symbol::EGP);
-    print_group(Symbol::EBP);
+    print_group(&rt, Symbol::SLP)?;
+    print_group(&rt, Symbol::SUP)?;
+    print_group(&rt, Symbol::EGP)?;
+    print_group(&rt, Symbol::EBP)?;
     let mut b = 0u32;
     while b < 256 {
-        print_group(Symbol::data((b % 256) as u8));
+        print_group(&rt, Symbol::data((b % 256) as u8))?;
         b += 1;
     }
-    print_controls();
-    print_disparities();
+    print_controls(&rt)?;
+    print_disparities(&rt)
 }
 
 // Every byte asked for as control, at -1.
-fn print_controls() {
+fn print_controls(rt: &impl Print) -> io::Result<()> {
     let mut b = 0u32;
     while b < 256 {
-        io::write_all(1, b"control ");
-        io::print_decimal(1, b as u64);
-        space();
-        print_asked(Symbol::control((b % 256) as u8), -1);
-        new_line();
+        print!(rt; "control {b}")?;
+        space(rt)?;
+        print_asked(rt, Symbol::control((b % 256) as u8), -1)?;
+        new_line(rt)?;
         b += 1;
     }
+    Ok(())
 }
 
-fn print_asked(s: Symbol, disparity: i32) {
+fn print_asked(rt: &impl Print, s: Symbol, disparity: i32) -> io::Result<()> {
     match character_writer::write(s, disparity) {
         Encoded::Written {
             character: _,
             disparity: _,
-        } => {
-            io::write_all(1, b"written");
-        }
-        Encoded::Refused(number) => print_refusal(number),
+        } => print!(rt; "written"),
+        Encoded::Refused(number) => print_refusal(rt, number),
     }
 }
 
 // Numbers that are no disparity, for a symbol that is writable and for one that is not.
-fn print_disparities() {
-    print_at(0);
-    print_at(2);
-    print_at(-2);
-    print_at(-2147483648);
-    print_at(2147483647);
+fn print_disparities(rt: &impl Print) -> io::Result<()> {
+    print_at(rt, 0)?;
+    print_at(rt, 2)?;
+    print_at(rt, -2)?;
+    print_at(rt, -2147483648)?;
+    print_at(rt, 2147483647)
 }
 
-fn print_at(disparity: i32) {
-    io::write_all(1, b"disparity ");
-    print_asked(Symbol::COM, disparity);
-    space();
-    print_asked(Symbol::control(Symbol::K28_7_BYTE), disparity);
-    new_line();
+fn print_at(rt: &impl Print, disparity: i32) -> io::Result<()> {
+    print!(rt; "disparity ")?;
+    print_asked(rt, Symbol::COM, disparity)?;
+    space(rt)?;
+    print_asked(rt, Symbol::control(Symbol::K28_7_BYTE), disparity)?;
+    new_line(rt)
 }

@@ -1,37 +1,44 @@
 // Reads a capture from standard input and writes its listing to standard output.
-use libc::{STDIN_FILENO, STDOUT_FILENO};
+#![tactic(auto)]
+
 use listing_rules::{Listing, Piece};
+use std::io;
+use std::io::Read;
 
 // More than the pieces of any capture's listing: the header, 820 of lines, the last line.
 const TURNS: u32 = 1024;
 
+// One byte more than a capture may have, so that a longer one is seen and refused.
+const MOST_READ: u64 = 65536;
+
 // Writes the first n bytes, and answers whether that was done.
-fn write_front(bytes: &[u8], n: usize) -> bool {
+fn write_front(rt: &impl Print, bytes: &[u8], n: usize) -> io::Result<bool> {
     if n <= bytes.len() {
-        return io::write_all(STDOUT_FILENO, &bytes[..n]);
+        rt.write_all(&bytes[..n])?;
+        return Ok(true);
     }
-    false
+    Ok(false)
 }
 
-fn write_out(out: &[u8; 2048], n: usize) -> bool {
-    write_front(out, n)
+fn write_out(rt: &impl Print, out: &[u8; 2048], n: usize) -> io::Result<bool> {
+    write_front(rt, out, n)
 }
 
-// Writes the next piece, and answers the listing after it. Where a write fails, the listing is over.
-fn write_piece(capture: &[u8], listing: Listing) -> Listing {
+// Writes the next piece, and answers the listing after it.
+fn write_piece(rt: &impl Print, capture: &[u8], listing: Listing) -> io::Result<Listing> {
     let mut out = [0u8; 2048];
     let next = listing::next(capture, listing, &mut out);
     let piece = next.piece;
     let after = next.listing;
     match piece {
         Piece::Written(n) => {
-            if write_out(&out, n) {
-                return after;
+            if write_out(rt, &out, n)? {
+                return Ok(after);
             }
-            Listing::Ended
+            Ok(Listing::Ended)
         }
-        Piece::Nothing => Listing::Ended,
-        Piece::Refused(_) => Listing::Ended,
+        Piece::Nothing => Ok(Listing::Ended),
+        Piece::Refused(_) => Ok(Listing::Ended),
     }
 }
 
@@ -43,21 +50,21 @@ fn is_ended(listing: Listing) -> bool {
     }
 }
 
-fn write_listing(capture: &[u8]) {
+fn write_listing(rt: &impl Print, capture: &[u8]) -> io::Result<()> {
     let mut listing = Listing::Fresh;
     let mut turns = TURNS;
     while turns > 0 {
         if is_ended(listing) {
-            return;
+            return Ok(());
         }
-        listing = write_piece(capture, listing);
+        listing = write_piece(rt, capture, listing)?;
         turns -= 1;
     }
+    Ok(())
 }
 
-// One byte more than a capture may have, so that a longer one is seen and refused.
-fn main() {
-    let mut input = io::large_buffer();
-    let n = io::read_full(STDIN_FILENO, &mut input);
-    write_listing(&input[..n]);
+fn main(rt: HostRuntime) -> io::Result<()> {
+    let mut input = Vec::new(rt.alloc());
+    rt.reader().take(MOST_READ).read_to_end(&mut input)?;
+    write_listing(&rt, &input)
 }

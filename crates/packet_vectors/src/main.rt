@@ -1,61 +1,64 @@
 // Runs a script of character results through the packet reader and prints each event. The script is standard input, two bytes a call: what is done, and a byte.
 // 0 to 5: a data or control symbol, clean, then with wrong disparity, then an invalid character (any byte); 6: a fresh reader, with S = 8 times the byte.
+#![tactic(auto)]
+
 use character_rules::Decoded;
 use packet_rules::{Event, FreshReader, Reader};
+use std::io;
+use std::io::Read;
 use symbol::Symbol;
 
-fn word(w: &[u8]) {
-    io::write_all(1, w);
+// The bytes of a script that are read.
+const MOST_READ: u64 = 65536;
+
+fn word(rt: &impl Print, w: &str) -> io::Result<()> {
+    print!(rt; "{w}")
 }
 
-fn number(n: u8) {
-    word(b" ");
-    io::print_decimal(1, n as u64);
+fn number(rt: &impl Print, n: u8) -> io::Result<()> {
+    word(rt, " ")?;
+    print!(rt; "{n}")
 }
 
-fn mark(b: bool) {
-    if b {
-        word(b" 1");
-    } else {
-        word(b" 0");
-    }
+fn mark(rt: &impl Print, b: bool) -> io::Result<()> {
+    if b { word(rt, " 1") } else { word(rt, " 0") }
 }
 
-fn print_event(e: Event) {
+fn print_event(rt: &impl Print, e: Event) -> io::Result<()> {
     match e {
-        Event::Nothing => word(b"nothing"),
+        Event::Nothing => word(rt, "nothing")?,
         Event::StartData(channel) => {
-            word(b"start data");
-            number(channel);
+            word(rt, "start data")?;
+            number(rt, channel)?;
         }
         Event::StartPriority { channel, segment } => {
-            word(b"start priority");
-            number(channel);
-            number(segment);
+            word(rt, "start priority")?;
+            number(rt, channel)?;
+            number(rt, segment)?;
         }
         Event::Byte(b) => {
-            word(b"byte");
-            number(b);
+            word(rt, "byte")?;
+            number(rt, b)?;
         }
         Event::End { bad } => {
-            word(b"end");
-            mark(bad);
+            word(rt, "end")?;
+            mark(rt, bad)?;
         }
         Event::Lmp { nack, segment } => {
-            word(b"lmp");
-            mark(nack);
-            number(segment);
+            word(rt, "lmp")?;
+            mark(rt, nack)?;
+            number(rt, segment)?;
         }
         Event::Violation(n) => {
-            word(b"violation");
-            number(n);
+            word(rt, "violation")?;
+            number(rt, n)?;
         }
         Event::Refused(n) => {
-            word(b"refused");
-            number(n);
+            word(rt, "refused")?;
+            number(rt, n)?;
         }
     }
-    word(b"\n");
+    word(rt, "\n")
 }
 
 // The character result that a call of the script brings.
@@ -71,30 +74,30 @@ fn result_of(call: u8, byte: u8) -> Decoded {
 }
 
 // A fresh reader with S, or the one that there was.
-fn fresh_or(size: u32, reader: Reader) -> Reader {
+fn fresh_or(rt: &impl Print, size: u32, reader: Reader) -> io::Result<Reader> {
     match packet_reader::fresh(size) {
         FreshReader::Ready(r) => {
-            word(b"fresh\n");
-            r
+            word(rt, "fresh\n")?;
+            Ok(r)
         }
         FreshReader::Refused(n) => {
-            word(b"not fresh");
-            number(n);
-            word(b"\n");
-            reader
+            word(rt, "not fresh")?;
+            number(rt, n)?;
+            word(rt, "\n")?;
+            Ok(reader)
         }
     }
 }
 
-fn one_call(call: u8, byte: u8, reader: Reader) -> Reader {
+fn one_call(rt: &impl Print, call: u8, byte: u8, reader: Reader) -> io::Result<Reader> {
     if call == 6 {
-        return fresh_or((byte as u32) * 8, reader);
+        return fresh_or(rt, (byte as u32) * 8, reader);
     }
     let step = packet_reader::step(reader, result_of(call, byte));
     let event = step.event;
     let next = step.reader;
-    print_event(event);
-    next
+    print_event(rt, event)?;
+    Ok(next)
 }
 
 // What stands at a place of the script; past its end 0.
@@ -105,7 +108,7 @@ fn at(script: &[u8], i: usize) -> u8 {
     0
 }
 
-fn run(script: &[u8], n: usize, reader: Reader) {
+fn run(rt: &impl Print, script: &[u8], n: usize, reader: Reader) -> io::Result<()> {
     let mut r = reader;
     let mut i = 0u16;
     while i < 32768 {
@@ -113,16 +116,17 @@ fn run(script: &[u8], n: usize, reader: Reader) {
             break;
         }
         let k = 2 * (i as usize);
-        r = one_call(at(script, k), at(script, k + 1), r);
+        r = one_call(rt, at(script, k), at(script, k + 1), r)?;
         i += 1;
     }
+    Ok(())
 }
 
-fn main() {
-    let mut script = io::large_buffer();
-    let n = io::read_full(0, &mut script);
+fn main(rt: HostRuntime) -> io::Result<()> {
+    let mut script = Vec::new(rt.alloc());
+    let n = rt.reader().take(MOST_READ).read_to_end(&mut script)?;
     match packet_reader::fresh(8) {
-        FreshReader::Ready(r) => run(&script, n / 2, r),
-        FreshReader::Refused(_) => word(b"no reader\n"),
+        FreshReader::Ready(r) => run(&rt, &script, n / 2, r),
+        FreshReader::Refused(_) => word(&rt, "no reader\n"),
     }
 }

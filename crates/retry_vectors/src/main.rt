@@ -1,6 +1,10 @@
 // Runs a script of calls of both ends of the retry and prints what each answers, the state it hands back, and a sum over the lent memory. The script comes on
 // standard input; tests/retry makes it, and what this program must print, from an implementation of its own.
+#![tactic(auto)]
+
 use retry_rules::{Arrived, Receiver, Sender};
+use std::io;
+use std::io::Read;
 
 mod print;
 mod script;
@@ -14,6 +18,9 @@ use crate::settings::{set_receiver, set_sender};
 
 // A call is 16 bytes: what is called, a flag byte, a seed, a spare byte, and three numbers of four bytes.
 const CALL: usize = 16;
+
+// The bytes of a script that are read.
+const MOST_READ: u64 = 65536;
 
 #[derive(Clone, Copy)]
 struct Part {
@@ -36,21 +43,27 @@ fn segment(call: &[u8], script: &[u8], bytes: u32) -> Part
     Part { from, to: from + n }
 }
 
-fn fresh_sender(call: &[u8]) -> Sender {
+fn fresh_sender(rt: &impl Print, call: &[u8]) -> io::Result<Sender> {
     let a = retry_beginning::fresh_sender(field(call, 0), field(call, 1));
-    word(b"fresh-sender");
-    numbers(&[a.refusal as u32]);
-    a.sender
+    word(rt, "fresh-sender")?;
+    numbers(rt, &[a.refusal as u32])?;
+    Ok(a.sender)
 }
 
-fn reset(call: &[u8], sender: Sender) -> Sender {
+fn reset(rt: &impl Print, call: &[u8], sender: Sender) -> io::Result<Sender> {
     let a = retry_beginning::reset(sender, field(call, 0), field(call, 1));
-    word(b"reset");
-    numbers(&[a.refusal as u32]);
-    a.sender
+    word(rt, "reset")?;
+    numbers(rt, &[a.refusal as u32])?;
+    Ok(a.sender)
 }
 
-fn offer(call: &[u8], script: &[u8], sender: Sender, memory: &mut [u8]) -> Sender {
+fn offer(
+    rt: &impl Print,
+    call: &[u8],
+    script: &[u8],
+    sender: Sender,
+    memory: &mut [u8],
+) -> io::Result<Sender> {
     let part = segment(call, script, field(call, 1));
     let from = part.from;
     let to = part.to;
@@ -62,68 +75,86 @@ fn offer(call: &[u8], script: &[u8], sender: Sender, memory: &mut [u8]) -> Sende
         flag(call, 0),
         &script[from..to],
     );
-    word(b"offer");
-    numbers(&[a.refusal as u32, a.number as u32]);
-    a.sender
+    word(rt, "offer")?;
+    numbers(rt, &[a.refusal as u32, a.number as u32])?;
+    Ok(a.sender)
 }
 
-fn send(call: &[u8], sender: Sender, memory: &[u8], output: &mut [u8]) -> Sender {
+fn send(
+    rt: &impl Print,
+    call: &[u8],
+    sender: Sender,
+    memory: &[u8],
+    output: &mut [u8],
+) -> io::Result<Sender> {
     let room = clamped(field(call, 1), output.len());
     let lent = clamped(field(call, 2), memory.len());
     let a = retry_send::send(sender, &memory[..lent], &mut output[..room]);
-    word(b"send");
-    numbers(&[
-        a.refusal as u32,
-        mark(a.sent),
-        a.number as u32,
-        a.channel as u32,
-        mark(a.bad),
-        a.length as u32,
-    ]);
-    a.sender
+    word(rt, "send")?;
+    numbers(
+        rt,
+        &[
+            a.refusal as u32,
+            mark(a.sent),
+            a.number as u32,
+            a.channel as u32,
+            mark(a.bad),
+            a.length as u32,
+        ],
+    )?;
+    Ok(a.sender)
 }
 
-fn reply(call: &[u8], sender: Sender) -> Sender {
+fn reply(rt: &impl Print, call: &[u8], sender: Sender) -> io::Result<Sender> {
     let a = retry_replies::reply(sender, flag(call, 0), field(call, 0));
-    word(b"reply");
-    numbers(&[a.refusal as u32]);
-    a.sender
+    word(rt, "reply")?;
+    numbers(rt, &[a.refusal as u32])?;
+    Ok(a.sender)
 }
 
-fn damaged_reply(sender: Sender) -> Sender {
+fn damaged_reply(rt: &impl Print, sender: Sender) -> io::Result<Sender> {
     let a = retry_replies::damaged_reply(sender);
-    word(b"damaged-reply");
-    numbers(&[a.refusal as u32]);
-    a.sender
+    word(rt, "damaged-reply")?;
+    numbers(rt, &[a.refusal as u32])?;
+    Ok(a.sender)
 }
 
-fn tick(sender: Sender) -> Sender {
+fn tick(rt: &impl Print, sender: Sender) -> io::Result<Sender> {
     let a = retry_timer::tick(sender);
-    word(b"tick");
-    numbers(&[a.refusal as u32, mark(a.fell)]);
-    a.sender
+    word(rt, "tick")?;
+    numbers(rt, &[a.refusal as u32, mark(a.fell)])?;
+    Ok(a.sender)
 }
 
-fn fresh_receiver(call: &[u8]) -> Receiver {
+fn fresh_receiver(rt: &impl Print, call: &[u8]) -> io::Result<Receiver> {
     let a = retry_receiver::fresh_receiver(field(call, 1));
-    word(b"fresh-receiver");
-    numbers(&[a.refusal as u32]);
-    a.receiver
+    word(rt, "fresh-receiver")?;
+    numbers(rt, &[a.refusal as u32])?;
+    Ok(a.receiver)
 }
 
-fn print_arrived(a: Arrived) {
-    numbers(&[
-        a.refusal as u32,
-        mark(a.delivered),
-        mark(a.nack),
-        a.number as u32,
-        a.channel as u32,
-        mark(a.bad),
-        a.length as u32,
-    ]);
+fn print_arrived(rt: &impl Print, a: Arrived) -> io::Result<()> {
+    numbers(
+        rt,
+        &[
+            a.refusal as u32,
+            mark(a.delivered),
+            mark(a.nack),
+            a.number as u32,
+            a.channel as u32,
+            mark(a.bad),
+            a.length as u32,
+        ],
+    )
 }
 
-fn arrival(call: &[u8], script: &[u8], given: Receiver, output: &mut [u8]) -> Receiver {
+fn arrival(
+    rt: &impl Print,
+    call: &[u8],
+    script: &[u8],
+    given: Receiver,
+    output: &mut [u8],
+) -> io::Result<Receiver> {
     let both = field(call, 2);
     let part = segment(call, script, both % 65536);
     let from = part.from;
@@ -138,76 +169,85 @@ fn arrival(call: &[u8], script: &[u8], given: Receiver, output: &mut [u8]) -> Re
         flag(call, 1),
         &mut output[..room],
     );
-    word(b"arrival");
-    print_arrived(a);
-    a.receiver
+    word(rt, "arrival")?;
+    print_arrived(rt, a)?;
+    Ok(a.receiver)
 }
 
-fn damaged_arrival(given: Receiver) -> Receiver {
+fn damaged_arrival(rt: &impl Print, given: Receiver) -> io::Result<Receiver> {
     let a = retry_receiver::damaged_arrival(given);
-    word(b"damaged-arrival");
-    print_arrived(a);
-    a.receiver
+    word(rt, "damaged-arrival")?;
+    print_arrived(rt, a)?;
+    Ok(a.receiver)
 }
 
 fn sender_call(
+    rt: &impl Print,
     what: u8,
     call: &[u8],
     script: &[u8],
     sender: Sender,
     memory: &mut [u8],
     output: &mut [u8],
-) -> Sender {
+) -> io::Result<Sender> {
     match what {
-        0 => fresh_sender(call),
-        1 => offer(call, script, sender, memory),
-        2 => send(call, sender, memory, output),
-        3 => reply(call, sender),
-        4 => damaged_reply(sender),
-        5 => tick(sender),
-        6 => reset(call, sender),
-        _ => set_sender(call, sender),
+        0 => fresh_sender(rt, call),
+        1 => offer(rt, call, script, sender, memory),
+        2 => send(rt, call, sender, memory, output),
+        3 => reply(rt, call, sender),
+        4 => damaged_reply(rt, sender),
+        5 => tick(rt, sender),
+        6 => reset(rt, call, sender),
+        _ => set_sender(rt, call, sender),
     }
 }
 
 fn receiver_call(
+    rt: &impl Print,
     what: u8,
     call: &[u8],
     script: &[u8],
     given: Receiver,
     output: &mut [u8],
-) -> Receiver {
+) -> io::Result<Receiver> {
     match what {
-        8 => fresh_receiver(call),
-        9 => arrival(call, script, given, output),
-        10 => damaged_arrival(given),
-        _ => set_receiver(call, given),
+        8 => fresh_receiver(rt, call),
+        9 => arrival(rt, call, script, given, output),
+        10 => damaged_arrival(rt, given),
+        _ => set_receiver(rt, call, given),
     }
 }
 
-fn step(call: &[u8], script: &[u8], world: World, memory: &mut [u8], output: &mut [u8]) -> World {
+fn step(
+    rt: &impl Print,
+    call: &[u8],
+    script: &[u8],
+    world: World,
+    memory: &mut [u8],
+    output: &mut [u8],
+) -> io::Result<World> {
     let sender = world.sender;
     let given = world.receiver;
     let what = byte(call, 0);
     if what < 8 {
-        let next = sender_call(what, call, script, sender, memory, output);
-        print_sender(next);
-        memory_sum(memory, output);
-        return World {
+        let next = sender_call(rt, what, call, script, sender, memory, output)?;
+        print_sender(rt, next)?;
+        memory_sum(rt, memory, output)?;
+        return Ok(World {
             sender: next,
             receiver: given,
-        };
+        });
     }
-    let next = receiver_call(what, call, script, given, output);
-    print_receiver(next);
-    memory_sum(memory, output);
-    World {
+    let next = receiver_call(rt, what, call, script, given, output)?;
+    print_receiver(rt, next)?;
+    memory_sum(rt, memory, output)?;
+    Ok(World {
         sender,
         receiver: next,
-    }
+    })
 }
 
-fn run(script: &[u8], memory: &mut [u8], output: &mut [u8]) {
+fn run(rt: &impl Print, script: &[u8], memory: &mut [u8], output: &mut [u8]) -> io::Result<()> {
     let begun = retry_beginning::fresh_sender(1, 8);
     let sender = begun.sender;
     let begun = retry_receiver::fresh_receiver(8);
@@ -216,16 +256,17 @@ fn run(script: &[u8], memory: &mut [u8], output: &mut [u8]) {
     let mut at: usize = 0;
     while CALL <= script.len() - at {
         let to = at + CALL;
-        world = step(&script[at..to], script, world, memory, output);
-        line_end();
+        world = step(rt, &script[at..to], script, world, memory, output)?;
+        line_end(rt)?;
         at = to;
     }
+    Ok(())
 }
 
-fn main() {
-    let mut input = io::large_buffer();
-    let n = io::read_full(0, &mut input);
+fn main(rt: HostRuntime) -> io::Result<()> {
+    let mut input = Vec::new(rt.alloc());
+    rt.reader().take(MOST_READ).read_to_end(&mut input)?;
     let mut memory = [170u8; 1024];
     let mut output = [85u8; 128];
-    run(&input[..n], &mut memory, &mut output);
+    run(&rt, &input, &mut memory, &mut output)
 }

@@ -2,6 +2,7 @@
 use crate::print::word;
 use crate::script::{byte, clamped, field};
 use retry_rules::{Counters, Receiver, Sender, Slots};
+use std::io;
 
 // The counters with one of them set, and a slot's length or channel: a state that may break its rule.
 fn with_counter(c: Counters, which: u8, to: u32) -> Counters {
@@ -41,27 +42,27 @@ fn with_slot(slots: Slots, channel: bool, slot: usize, to: u32) -> Slots {
     }
 }
 
-pub fn set_sender(call: &[u8], sender: Sender) -> Sender {
-    word(b"set-sender");
+pub fn set_sender(rt: &impl Print, call: &[u8], sender: Sender) -> io::Result<Sender> {
+    word(rt, "set-sender")?;
     let to = field(call, 1);
     let which = byte(call, 2);
     let counters = sender.counters;
     let slots = sender.slots;
     if which < 10 {
-        return Sender {
+        return Ok(Sender {
             counters: with_counter(counters, which, to),
             slots,
-        };
+        });
     }
     let slot = clamped(field(call, 0), 8);
-    Sender {
+    Ok(Sender {
         counters,
         slots: with_slot(slots, which == 10, slot, to),
-    }
+    })
 }
 
-pub fn set_receiver(call: &[u8], given: Receiver) -> Receiver {
-    word(b"set-receiver");
+pub fn set_receiver(rt: &impl Print, call: &[u8], given: Receiver) -> io::Result<Receiver> {
+    word(rt, "set-receiver")?;
     let to = field(call, 1);
     let mut r = given;
     match byte(call, 2) {
@@ -69,5 +70,5 @@ pub fn set_receiver(call: &[u8], given: Receiver) -> Receiver {
         1 => r.received = (to % 256) as u8,
         _ => r.size = (to % 65536) as u16,
     }
-    r
+    Ok(r)
 }
