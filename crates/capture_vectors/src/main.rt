@@ -23,10 +23,7 @@ fn number(rt: &impl Print, n: u64) -> io::Result<()> {
 fn answer(rt: &impl Print, a: Answer) -> io::Result<()> {
     match a {
         Answer::Number(n) => number(rt, n as u64),
-        Answer::Refused(r) => {
-            print!(rt; " refused")?;
-            number(rt, r as u64)
-        }
+        Answer::Refused(r) => print!(rt; " refused {r}"),
     }
 }
 

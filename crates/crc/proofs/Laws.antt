@@ -3,7 +3,7 @@
 use mathlib.Core.Path.{◌≡◌, refl, sym, ap, ◌∙◌}
 use mathlib.Core.Bool.{xor}
 use mathlib.Core.List.{List, [], ◌∷◌, ◌++◌}
-use Prim.Native.Nat.{ℕ, ◌+◌, ◌-◌, ◌/◌, ◌%◌, ◌<◌}
+use Prim.Native.Nat.{ℕ, ◌-◌, ◌/◌, ◌%◌, ◌<◌}
 use native.Mathlib.Omega.{arith}
 use Rattle.laws.specs.Check.{coefficients, overlay, check_bit, check_bits, lowest_first, number_of, bits_of, bytes_of}
 use Rattle.laws.proofs.Shifts.{shift, shifts, check_from, check_bytes, residue, from_append, from_lt, remainder}

@@ -1,4 +1,6 @@
 // What C calls to read a whole capture into events, an event a character, the reader's state in 15 lent bytes.
+#![tactic(auto)]
+
 ghost use Rattle.std.specs.Prelude.{◌≡◌, length};
 ghost use Rattle.events_rules.specs.Events.{not_read_capture};
 ghost use Rattle.host_calls.specs.EventCalls.{capture_numbers, events_numbers, ReadsCapture, reads_capture};

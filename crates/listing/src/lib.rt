@@ -1,4 +1,6 @@
 // The listing of a capture, handed out in pieces.
+#![tactic(auto)]
+
 ghost use Rattle.std.specs.Prelude.{◌≡◌, ◌++◌, length, drop};
 ghost use Rattle.listing_rules.specs.Pieces.{says, piece_of, done_says, next_says, next_leaves};
 ghost use Rattle.listing_rules.specs.declared.Listing.TheVariants.{Fresh as IsFresh};

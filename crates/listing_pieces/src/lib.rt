@@ -1,4 +1,6 @@
 // A later piece of a listing: the characters are taken and read in bulk, and their results are listed; after the last comes the end.
+#![tactic(auto)]
+
 ghost use Rattle.std.specs.Prelude.{◌≡◌, true, ◌++◌, ◌+◌, ◌≤◌, ◌<◌, length, get_or, take, drop};
 ghost use Rattle.capture_rules.specs.Capture.{characters_of, character_count, legal};
 ghost use Rattle.listing_rules.specs.Lines.{end_line};

@@ -10,7 +10,7 @@ use Rattle.laws.proofs.Bools.{and_left, and_right, and_both}
 use Rattle.symbol.specs.declared.Symbol.{Symbol}
 use Rattle.character_rules.specs.Disparity.{is_disparity}
 use Rattle.character_rules.specs.Blocks.{closing}
-use Rattle.character_rules.specs.Answers.{Reading, clean}
+use Rattle.character_rules.specs.Answers.{Reading}
 use Rattle.character_rules.specs.Results.{new_disparity, readings_of, run_closing}
 use Rattle.character_rules.specs.Demand.{can_write}
 use Rattle.character_rules.proofs.Disparities.{closing_disparity}

@@ -1,5 +1,4 @@
 -- A character from its two bytes: the law by place. Past the last character stands 0.
-use borrow.Author.Rules.{rules}
 use mathlib.Core.Path.{sym, ◌∙◌}
 use Prim.Native.Nat.{◌+◌, ◌-◌, ◌*◌, ◌/◌, ◌%◌}
 use native.Mathlib.Omega.{arith}

@@ -1,9 +1,8 @@
 -- Each way out is one of the tests that decide whether a capture is legal.
-use borrow.Author.Rules.{rules}
 use native.Mathlib.Omega.{arith}
 use lib.Dec.{eqb}
 use Prim.Native.Nat.{ℕ, ◌%◌}
-use Rattle.capture.proofs.Facts.{one_up, one_up_pos}
+use Rattle.capture.proofs.Facts.{one_up}
 use Rattle.capture_rules.proofs.Legal.{legal_long, legal_one, legal_empty, legal_last}
 use mathlib.Core.Path.{sym, ap₂, ◌∙◌}
 use Rattle.capture.proofs.is_legal.Goals as goal

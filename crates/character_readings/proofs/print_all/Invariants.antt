@@ -1,3 +1,4 @@
+-- It ends at the last character.
 use Rattle.std.proofs.Common.{◌-◌, ◌≤◌}
 use Rattle.character_readings.proofs.print_all.Given as goal
 

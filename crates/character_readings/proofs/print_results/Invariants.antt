@@ -1,3 +1,4 @@
+-- It ends at the last result.
 use Rattle.std.proofs.Common.{◌-◌, ◌≤◌}
 use Rattle.character_readings.proofs.print_results.Given as goal
 

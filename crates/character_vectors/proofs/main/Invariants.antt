@@ -1,3 +1,4 @@
+-- It ends at the last symbol.
 use Rattle.std.proofs.Common.{◌-◌, ◌≤◌}
 use Rattle.character_vectors.proofs.main.Given as goal
 

@@ -1,3 +1,4 @@
+-- It ends at the last bit.
 use Rattle.character_vectors.proofs.print_bits.Given as goal
 
 -- It ends at the last bit.

@@ -1,3 +1,4 @@
+-- It ends at the last byte.
 use Rattle.std.proofs.Common.{◌-◌, ◌≤◌}
 use Rattle.character_vectors.proofs.print_controls.Given as goal
 

@@ -1,7 +1,6 @@
 -- The check bytes of the register after the message.
 use mathlib.Core.Path.{sym, ap, ◌∙◌}
 use Prim.Native.Nat.{ℕ}
-use borrow.Author.Rules.{rules}
 use Rattle.crc.specs.Crc16.{crc_from, check_bytes_of, crc_of}
 use Rattle.crc.proofs.Laws.{start_value}
 use Rattle.crc.proofs.check_of.Goals as goal

@@ -3,7 +3,6 @@ use mathlib.Core.Path.{sym, ap, ◌∙◌}
 use Prim.Native.Nat.{ℕ, ◌*◌, ◌/◌, ◌%◌, ◌<◌}
 use native.Mathlib.Omega.{arith}
 use lib.Bits.{bit_xor, xor_lt}
-use borrow.Author.Rules.{rules}
 use Rattle.crc.proofs.Byte.{by_halves, by_moves}
 use Rattle.crc.proofs.step.Goals as goal
 

@@ -5,7 +5,6 @@ use Prim.Native.Nat.{ℕ, ◌/◌, ◌%◌}
 use native.Mathlib.Omega.{arith}
 use lib.Bits.{bit_xor}
 use lib.ListN.{get_or}
-use borrow.Author.Rules.{rules}
 use Rattle.crc.proofs.Byte.{by_halves, by_table}
 use Rattle.crc.proofs.step_by.Goals as goal
 

@@ -1,3 +1,4 @@
+-- Both loops count up.
 use Rattle.std.proofs.Common.{◌-◌, ◌≤◌}
 use Rattle.crc_vectors.proofs.main.Given as goal
 

@@ -1,3 +1,4 @@
+-- Each place is inside the buffer.
 use Rattle.std.proofs.Common.{◌-◌, ◌≤◌}
 use Rattle.crc_vectors.proofs.print_message.Given as goal
 

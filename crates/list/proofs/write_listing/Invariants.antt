@@ -1,3 +1,4 @@
+-- The loop counts its turns down.
 use Rattle.list.proofs.write_listing.Given as goal
 
 -- The loop counts its turns down.

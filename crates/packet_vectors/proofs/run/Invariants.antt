@@ -1,3 +1,4 @@
+-- It ends at the script's end.
 use Rattle.std.proofs.Common.{◌-◌, ◌≤◌}
 use Rattle.packet_vectors.proofs.run.Given as goal
 

@@ -1,3 +1,4 @@
+-- It ends after the last whole call, and each call is a part of the script.
 use Rattle.std.proofs.Common.{◌-◌, ◌≤◌, length}
 use Rattle.retry_vectors.proofs.run.Given as goal
 

@@ -1,3 +1,4 @@
+-- It ends after the last number.
 use Rattle.std.proofs.Common.{◌-◌, ◌≤◌, length}
 use Rattle.retry_vectors.proofs.print.numbers.Given as goal
 

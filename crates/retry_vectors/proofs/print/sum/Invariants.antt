@@ -1,3 +1,4 @@
+-- It ends, and every place it reads or writes is there.
 use Rattle.std.proofs.Common.{◌-◌, ◌≤◌, ◌<◌, length}
 use Rattle.retry_vectors.proofs.print.sum.Given as goal
 
