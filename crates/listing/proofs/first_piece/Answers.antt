@@ -1,12 +1,10 @@
 -- The one line of a refused capture, and the header.
 use mathlib.Core.Path.{refl, sym, ◌∙◌}
-use borrow.Author.Tests.{not-true, not-false}
 use Rattle.listing_rules.specs.Text.{decimal}
 use Rattle.listing_rules.specs.Lines.{header, refused_line}
 use Rattle.listing_text.specs.Writing.{front_room}
 use Rattle.listing_text.proofs.Written.{put_wrote}
 use Rattle.listing.proofs.Nexts.{refused_is, header_is, never_refused}
-use borrow.Author.Rules.{rules}
 use Rattle.listing.proofs.first_piece.Goals as goal
 
 pub returns-then-not-is_legal : goal.returns-then-not-is_legal
@@ -14,7 +12,7 @@ unfolding decimal
 returns-then-not-is_legal c =
     let a = c.args in
     refused_is a.capture.now a.out.now c.put_front-n.new.out c.put_front-n.result
-    (sym c.is_legal.ensures ∙ not-true _ c.if-not-is_legal.true)
+    (sym c.is_legal.ensures ∙ c.if-not-is_legal.true)
     (put_wrote (front_room refused_line) 0 refused_line a.out.now _ _ refl c.put_front-n.ensures)
 
 pub returns-in-Ready : goal.returns-in-Ready
@@ -25,7 +23,7 @@ returns-in-Ready c =
     header_is a.capture.now a.out.now put.new.out put.result the-fresh.result the-fresh.ensures
     c.in-Ready.reader c.in-Ready.is
     (sym c.is_legal.ensures
-    ∙ not-false _ c.if-not-is_legal.false)
+    ∙ c.if-not-is_legal.false)
     (put_wrote (front_room header) 0 header a.out.now _ _ refl put.ensures)
 
 pub returns-in-Refused : goal.returns-in-Refused

@@ -1,7 +1,6 @@
 -- A fresh listing, one that goes on, and one that has ended.
 use Rattle.listing_rules.specs.Pieces.{says}
-use Rattle.listing.proofs.Nexts.{first_comes, later_comes, ended_comes}
-use borrow.Author.Rules.{rules}
+use Rattle.listing.proofs.Nexts.{first_comes, ended_comes}
 use Rattle.listing.proofs.next.Goals as goal
 
 pub returns-in-Fresh : goal.returns-in-Fresh
