@@ -13,6 +13,8 @@ import sys
 ROOT = pathlib.Path(__file__).resolve().parents[2]
 FUNCTION = re.compile(r'^[ \t]*(pub |pub\([^)]*\) |)(?:const |unsafe )*(extern "C" |)fn «?(\w+)', re.M)
 CLAUSE = re.compile(r"(requires|ensures|ghost)\b(\*?)\s*«?(\w*)»?\s*:?\s*(?=\{)")
+# what a function answers that prints: the system's failure, of which no clause can speak, and nothing else
+PRINTS = re.compile(r"\(rt: &impl Print\b.*->\s*io::Result<\(\)>\s*$", re.S)
 
 # (crate, function): why it is not in the settled form
 EXCEPTIONS = {
@@ -114,8 +116,8 @@ def form(signature, clauses):
             return [f"has a {kind}"]
     lent = re.findall(r"«?(\w+)»?\s*:\s*&(?:'\w+\s+)?mut\b", signature) + re.findall(r"&(?:'\w+\s+)?mut (self)\b", signature)
     answers = "->" in signature
-    if not answers and not lent and not clauses:
-        return []  # it answers nothing and is lent nothing to write: there is nothing to promise
+    if not clauses and not lent and (not answers or PRINTS.search(signature)):
+        return []  # it answers nothing, or only whether the system took what it prints, and is lent nothing to write: there is nothing to promise
     if not clauses or any(star for _, star, _, _ in clauses):
         return ["has no contract of plain facts"]
     names = [name for _, _, name, _ in clauses]
@@ -177,6 +179,9 @@ WRONG = [
     ("has a requires", "f", GOOD.replace("    ensures", "    requires { a < 4 }\n    ensures")),
     ("has a ghost", "f", GOOD.replace("    ensures", "    ghost top: { ℕ }\n    ensures")),
     ("has no contract of plain facts", "f", "(a: u32) -> u32\n{\n"),
+    ("has no contract of plain facts", "f", "(a: u32) -> io::Result<()>\n{\n"),
+    ("has no contract of plain facts", "f", "(rt: &impl Print, a: u32) -> io::Result<u32>\n{\n"),
+    ("has no contract of plain facts", "f", "(rt: &impl Print, a: &mut u32) -> io::Result<()>\n{\n"),
     ("has no contract of plain facts", "f", "(a: &mut u32)\n{\n"),
     ("has no contract of plain facts", "f", "(a: u32) -> u32 {\n    ensures { result ≡ a }\n"),
     ("has no contract of plain facts", "f", GOOD.replace("ensures", "ensures*")),
