@@ -58,7 +58,7 @@ pub fn back<'s, 'a>(pane: &'s mut Pane<'a>) -> Move
     m
 }
 
-// The character that a fresh pane shows. Whoever calls this one, on a plain slice, needs no walk.
+// The character that a fresh pane shows.
 pub fn first(capture: &[u8]) -> Answer
     ensures { says result ≡ character_says capture.now 0 }
 {
