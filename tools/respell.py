@@ -137,6 +137,8 @@ def main():
     print(f"{len(names)} names, {bad} that fall together")
     if not write:
         return
+    if "isDown" not in found:
+        sys.exit("it has run here already: nothing is written, since a second run would take today's words for the older ones")
     for file in antt_files():
         file.write_text(turn(file.read_text(), names, "--", False, fields if file.name == "Proof.antt" else None))
     for file in sorted(root.glob("crates/*/src/**/*.rt")):
