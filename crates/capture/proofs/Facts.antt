@@ -2,6 +2,7 @@
 -- Assumes nothing.
 use mathlib.Core.Path.{◌≡◌, sym, ap, ap₂, ◌∙◌, subst}
 use mathlib.Core.List.{List}
+use mathlib.Core.Bool.{false}
 use Prim.Native.Nat.{ℕ, ◌+◌, ◌-◌, ◌*◌, ◌/◌, ◌%◌, ◌^◌, ◌≤◌, ◌<◌}
 use native.Mathlib.Nat.{one-mul}
 use native.Mathlib.Omega.{arith}
@@ -9,7 +10,8 @@ use lib.Dec.{T}
 use lib.ListN.{length, get_or}
 use lib.Pow.{shl_exact, pow_pos}
 use Rattle.laws.specs.Groups.{all_below}
-use Rattle.capture_rules.specs.Capture.{character_count, characters_of}
+use Rattle.capture_rules.specs.Capture.{character_count, characters_of, legal}
+use Rattle.capture_rules.proofs.Legal.{legal_one}
 use Rattle.capture_rules.proofs.Places.{character_by_place}
 
 -- 1 moved up z places, in 64 bits
@@ -18,6 +20,10 @@ one_up z h = shl_exact {a = 1} 1 z 64 (omega arith) (omega arith) ∙ one-mul (2
 
 pub one_up_pos : (z : ℕ) → z ≤ 9 → 0 < 1 * 2 ^ z % 18446744073709551616
 one_up_pos z h = subst (λ (n : ℕ). 0 < n) (sym (one_up z h)) (pow_pos z)
+
+-- the check finds this for the code's test: the test keeps no name in a proof, so that another number there is refused by the fact
+pub one_over : (bytes : List ℕ) → length bytes ≤ 65535 → length bytes % 5 ≡ 1 → false ≡ legal bytes
+one_over bytes h e = sym (legal_one bytes h e)
 
 -- a character that begins in byte k, with so many bits of the next byte after it
 pub in_bytes : (bytes : List ℕ) → T (all_below 256 bytes) → (i k next after : ℕ) → 10 * i + after ≡ 8 * k + 6 → next ≡ k + 1 → after ≤ 6

@@ -17,6 +17,7 @@ fn wide8(x: u8) -> usize
 }
 
 // Whether a capture's length is one that is written, and its closing bits, the lowest of the last byte, are zero.
+#[tactic(auto, using(crate::proofs::Facts::one_over))]
 pub fn is_legal(capture: &[u8]) -> bool
     ensures { result ≡ legal capture.now }
 {

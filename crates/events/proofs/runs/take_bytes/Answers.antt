@@ -30,7 +30,6 @@ look_up-result-requires c =
 pub loop-at-preserved : goal.loop-at-preserved
 loop-at-preserved c =
     let stepped = c.step_by-register in
-    let one = c.if-result-ge256 in
     let found = c.look_up-result in
     let character = c.character_in-character in
     let test = c.loop-at-test in
@@ -45,7 +44,7 @@ loop-at-preserved c =
     let is = found.ensures ∙ ap (λ (k : ℕ). packed (reading k (disparity_of l.plus))) character.ensures in
     let fed =
     fed_one cs a.until from.at from.plus from.register a.events.now (omega arith) l.at l.plus l.register
-    l.events n l.invariant test.true low (omega arith) is one.false in
+    l.events n l.invariant test.true low (omega arith) is (omega arith) in
     let new = set l.events l.at (262144 + n % 256) in
     subst (λ (x : ℕ). Fed cs a.until from.at from.plus from.register a.events.now (l.at + 1) (leb 2048 n) x new)
     (sym stepped.ensures) fed
