@@ -1,6 +1,8 @@
 // Reads a capture from standard input and writes its listing to standard output.
 #![tactic(auto)]
 
+ghost use Rattle.std.specs.Prelude.{◌≤◌, IfOk, length};
+
 use listing_rules::{Listing, Piece};
 use std::io;
 use std::io::Read;
@@ -9,7 +11,26 @@ use std::io::Read;
 const TURNS: u32 = 1024;
 
 // One byte more than a capture may have, so that a longer one is seen and refused.
-const MOST_READ: u64 = 65536;
+const MOST_READ: usize = 65536;
+
+// Reads until the buffer is full or the input ends, and answers how many bytes came.
+fn read_full(rt: &impl Input, buf: &mut [u8]) -> io::Result<usize>
+    ensures { IfOk result (λ n. n ≤ length buf.old) }
+{
+    let mut reader = rt.reader();
+    let mut n = 0;
+    for _ in 0..MOST_READ {
+        if n == buf.len() {
+            return Ok(n);
+        }
+        let got = reader.read(&mut buf[n..])?;
+        if got == 0 {
+            return Ok(n);
+        }
+        n += got;
+    }
+    Ok(n)
+}
 
 // Writes the first n bytes, and answers whether that was done.
 fn write_front(rt: &impl Print, bytes: &[u8], n: usize) -> io::Result<bool> {
@@ -64,7 +85,7 @@ fn write_listing(rt: &impl Print, capture: &[u8]) -> io::Result<()> {
 }
 
 fn main(rt: HostRuntime) -> io::Result<()> {
-    let mut input = Vec::new(rt.alloc());
-    rt.reader().take(MOST_READ).read_to_end(&mut input)?;
-    write_listing(&rt, &input)
+    let mut input = [0u8; MOST_READ];
+    let n = read_full(&rt, &mut input)?;
+    write_listing(&rt, &input[..n])
 }

@@ -2,6 +2,8 @@
 // 0 to 5: a data or control symbol, clean, then with wrong disparity, then an invalid character (any byte); 6: a fresh reader, with S = 8 times the byte.
 #![tactic(auto)]
 
+ghost use Rattle.std.specs.Prelude.{◌≤◌, IfOk, length};
+
 use character_rules::Decoded;
 use packet_rules::{Event, FreshReader, Reader};
 use std::io;
@@ -9,7 +11,26 @@ use std::io::Read;
 use symbol::Symbol;
 
 // The bytes of a script that are read.
-const MOST_READ: u64 = 65536;
+const MOST_READ: usize = 65536;
+
+// Reads until the buffer is full or the input ends, and answers how many bytes came.
+fn read_full(rt: &impl Input, buf: &mut [u8]) -> io::Result<usize>
+    ensures { IfOk result (λ n. n ≤ length buf.old) }
+{
+    let mut reader = rt.reader();
+    let mut n = 0;
+    for _ in 0..MOST_READ {
+        if n == buf.len() {
+            return Ok(n);
+        }
+        let got = reader.read(&mut buf[n..])?;
+        if got == 0 {
+            return Ok(n);
+        }
+        n += got;
+    }
+    Ok(n)
+}
 
 fn word(rt: &impl Print, w: &str) -> io::Result<()> {
     print!(rt; "{w}")
@@ -123,8 +144,8 @@ fn run(rt: &impl Print, script: &[u8], n: usize, reader: Reader) -> io::Result<(
 }
 
 fn main(rt: HostRuntime) -> io::Result<()> {
-    let mut script = Vec::new(rt.alloc());
-    let n = rt.reader().take(MOST_READ).read_to_end(&mut script)?;
+    let mut script = [0u8; MOST_READ];
+    let n = read_full(&rt, &mut script)?;
     match packet_reader::fresh(8) {
         FreshReader::Ready(r) => run(&rt, &script, n / 2, r),
         FreshReader::Refused(_) => word(&rt, "no reader\n"),

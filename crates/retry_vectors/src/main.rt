@@ -10,7 +10,7 @@ mod print;
 mod script;
 mod settings;
 
-ghost use Rattle.std.specs.Prelude.{◌≤◌, length};
+ghost use Rattle.std.specs.Prelude.{◌≤◌, IfOk, length};
 
 use crate::print::{line_end, mark, memory_sum, numbers, print_receiver, print_sender, word};
 use crate::script::{byte, clamped, field, flag, wide};
@@ -20,7 +20,26 @@ use crate::settings::{set_receiver, set_sender};
 const CALL: usize = 16;
 
 // The bytes of a script that are read.
-const MOST_READ: u64 = 65536;
+const MOST_READ: usize = 65536;
+
+// Reads until the buffer is full or the input ends, and answers how many bytes came.
+fn read_full(rt: &impl Input, buf: &mut [u8]) -> io::Result<usize>
+    ensures { IfOk result (λ n. n ≤ length buf.old) }
+{
+    let mut reader = rt.reader();
+    let mut n = 0;
+    for _ in 0..MOST_READ {
+        if n == buf.len() {
+            return Ok(n);
+        }
+        let got = reader.read(&mut buf[n..])?;
+        if got == 0 {
+            return Ok(n);
+        }
+        n += got;
+    }
+    Ok(n)
+}
 
 #[derive(Clone, Copy)]
 struct Part {
@@ -264,9 +283,9 @@ fn run(rt: &impl Print, script: &[u8], memory: &mut [u8], output: &mut [u8]) -> 
 }
 
 fn main(rt: HostRuntime) -> io::Result<()> {
-    let mut input = Vec::new(rt.alloc());
-    rt.reader().take(MOST_READ).read_to_end(&mut input)?;
+    let mut input = [0u8; MOST_READ];
+    let n = read_full(&rt, &mut input)?;
     let mut memory = [170u8; 1024];
     let mut output = [85u8; 128];
-    run(&rt, &input, &mut memory, &mut output)
+    run(&rt, &input[..n], &mut memory, &mut output)
 }

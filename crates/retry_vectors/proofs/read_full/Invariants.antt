@@ -1,0 +1,6 @@
+-- What has come fits the buffer.
+use Rattle.std.proofs.Common.{◌≤◌, length}
+use Rattle.retry_vectors.proofs.read_full.Given as goal
+
+abbrev pub invariant-loop : goal.invariant-loop
+invariant-loop g l = l.n ≤ length l.buf
