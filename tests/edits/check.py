@@ -3,7 +3,8 @@
 
 check.py [LOG]: reads what `rt ci` said of the edits, which the gate leaves in target/ci.log (`rt must-fail` says it in the same words). Fails, naming the
 edit and what was said of it, where nothing was said, where rt did not refuse it, or refused it only by a limit or for a name that is gone, where the
-error speaks of names, shapes or syntax, or where it is of no known kind. That it fails on such words is tried first.
+error speaks of names, shapes or syntax, or where it is of no known kind; and where the edit changes the name of the goal that is not proved, while an answer
+stands for it under the older name: then the answer is lost with the name, and the wrong answer is not what is refused. That it fails on such words is tried first.
 """
 import pathlib
 import re
@@ -50,6 +51,43 @@ def fault(said):
     return ""
 
 
+# How a comparison is called in the name of a goal.
+CALLED = {"==": "eq", "!=": "ne", "<": "lt", "<=": "le", ">": "gt", ">=": "ge"}
+WORDS = re.compile(r"\w+|[=!<>]=|[<>]")
+
+
+def lost_answer(said, edit, answered):
+    """The answer that no longer applies because the edit changed its goal's name; nothing if there is none. `answered`: the names that have an answer."""
+    goal = re.search(r"it is not proved that .*\(`([^`]+)`\)", said)
+    if not goal or goal.group(1) in answered or "the facts known there allow values" in said:
+        return ""
+    old, new = ([word for line in re.findall(rf"^{which}: (.*)$", edit, re.M) for word in WORDS.findall(line)] for which in ("old", "new"))
+    for is_now in set(new) - set(old):
+        for was in set(old) - set(new):
+            name = CALLED.get(is_now, is_now)
+            beside = "[0-9]" if name.isdigit() else "[A-Za-z_]"
+            older = re.sub(rf"(?<!{beside}){re.escape(name)}(?!{beside})", CALLED.get(was, was), goal.group(1))
+            if older != goal.group(1) and older in answered:
+                return older
+    return ""
+
+
+def edited_answers(crate, edit):
+    """The names of the goals that a crate with an edit has an answer for."""
+    found = set()
+    for file in sorted((crate / "proofs").rglob("Answers.antt")):
+        text, here = file.read_text(encoding="utf-8"), None
+        for line in edit.split("\n"):
+            if line.startswith("file: "):
+                here = crate / line[6:] == file
+            elif line.startswith("old: "):
+                old = line[5:]
+            elif line.startswith("new:") and here:
+                text = text.replace(old, line[5:], 1)
+        found.update(re.findall(r"^pub (\S+) : goal\.", text, re.M))
+    return found
+
+
 def edits():
     for edit in sorted((ROOT / "crates").glob("*/must-fail/*.edit")):
         yield edit.parts[-3], edit.stem
@@ -81,12 +119,22 @@ def self_test():
         "refused, as it must be: a.antt:9:13: error: `returns`: give a proof of that as the last argument, `simp L t` (`simp L ?` shows it as a hole's goal), or add what is missing",
     ]
     assert all(fault(said) for said in bad) and not any(fault(said) for said in good)
+    nine = "refused, as it must be: note: src/lib.rt:9:1: it is not proved that what the function ensures holds (`returns-then-c-eq9`); `search` gave up at one of its limits"
+    number, sign = "old: if c == 8 {\nnew: if c == 9 {\n", "old: if c != 9 {\nnew: if c == 9 {\n"
+    assert lost_answer(nine, number, {"returns-then-c-eq8"}) == "returns-then-c-eq8" and lost_answer(nine, sign, {"returns-then-c-ne9"}) == "returns-then-c-ne9"
+    assert not lost_answer(nine, number, {"returns-then-c-eq9"}) and not lost_answer(nine, number, {"returns-then-c-eq0"})
+    assert not lost_answer(nine.replace("`search` gave up at one of its limits", "the facts known there allow values at which this goal"), number, {"returns-then-c-eq8"})
     log = "rt: a proved\nrt: must-fail a/b.edit: " + good[0] + "\nrt: must-fail a/c.d.edit: " + bad[0] + "\n"
     assert judged(log, [("a", "b"), ("a", "c.d"), ("a", "e")]) == [f"a/c.d: {fault(bad[0])}", "a/e: it was not tried"]
     assert judged(log + log, [("a", "b")]) == ["a/b: rt says 2 things of it", "a/c.d: rt speaks of it, and it is not there"]
 
 
-def judged(log, wanted):
+def lost_here(crate, label, said):
+    edit = (ROOT / "crates" / crate / "must-fail" / f"{label}.edit").read_text(encoding="utf-8")
+    return lost_answer(said, edit, edited_answers(ROOT / "crates" / crate, edit))
+
+
+def judged(log, wanted, lost=lambda crate, label, said: ""):
     """The faults of the edits that are there, by a log."""
     said, faults = {}, []
     for crate, label, what in SAID.findall(log):
@@ -94,6 +142,9 @@ def judged(log, wanted):
     for edit in wanted:
         found = said.pop(edit, [])
         problem = "it was not tried" if not found else f"rt says {len(found)} things of it" if len(found) > 1 else fault(found[0])
+        if not problem:
+            older = lost(*edit, found[0])
+            problem = f"its answer `{older}` is lost with the goal's name, so the wrong answer is not what is refused" if older else ""
         faults += [f"{'/'.join(edit)}: {problem}"] if problem else []
     return faults + [f"{'/'.join(edit)}: rt speaks of it, and it is not there" for edit in said]
 
@@ -104,7 +155,7 @@ def main(log):
         print(f"edits: there is no {log}: the gate writes it, from what rt ci says")
         return 1
     wanted = list(edits())
-    faults = judged(log.read_text(encoding="utf-8", errors="replace"), wanted)
+    faults = judged(log.read_text(encoding="utf-8", errors="replace"), wanted, lost_here)
     print("\n".join(faults) if faults else f"edits: {len(wanted)} wrong answers, each refused by a fact that no longer holds")
     return 1 if faults or not wanted else 0
 

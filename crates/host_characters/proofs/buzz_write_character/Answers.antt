@@ -21,8 +21,8 @@ returns-in-Written c =
     let old : Writes = record { disparity = a.disparity.now; character = a.character.now } in
     let e = sym (ap writing_says c.in-Written.is) ∙ c.write-answer.ensures
     ∙ ap (writing (symbol_of a.byte a.control)) (same a.disparity.now c.write-arg-1.given) in
-    let h = e ∙ sym (byte_fits a.byte a.control a.disparity.now c.if-byte-gt255.false) in
-    rw (write_done _ _ old _ _ h) (refl, same _ c.in-Written.known_told-1-own.given.1.0.1, refl)
+    let written = e ∙ sym (byte_fits a.byte a.control a.disparity.now c.if-byte-gt255.false) in
+    rw (write_done _ _ old _ _ written) (refl, same _ c.in-Written.known_told-1-own.given.1.0.1, refl)
 
 pub returns-in-Refused : goal.returns-in-Refused
 returns-in-Refused c =
@@ -30,5 +30,5 @@ returns-in-Refused c =
     let old : Writes = record { disparity = a.disparity.now; character = a.character.now } in
     let e = sym (ap writing_says c.in-Refused.is) ∙ c.write-answer.ensures
     ∙ ap (writing (symbol_of a.byte a.control)) (same a.disparity.now c.write-arg-1.given) in
-    let h = e ∙ sym (byte_fits a.byte a.control a.disparity.now c.if-byte-gt255.false) in
-    rw (write_refused _ _ old _ h) (refl, refl, refl)
+    let refused = e ∙ sym (byte_fits a.byte a.control a.disparity.now c.if-byte-gt255.false) in
+    rw (write_refused _ _ old _ refused) (refl, refl, refl)
