@@ -6,7 +6,7 @@ mod runs;
 
 ghost use Rattle.std.specs.Prelude.{◌≡◌, true, ◌+◌, ◌≤◌, ◌<◌, length};
 ghost use Rattle.character_table.specs.Table.{table};
-ghost use Rattle.crc.specs.Crc16.{entries as crcEntries};
+ghost use Rattle.crc.specs.Crc16.{entries as crc_entries};
 ghost use Rattle.capture_rules.specs.Capture.{character_count, characters_of};
 ghost use Rattle.packet_rules.specs.State.{well_formed};
 ghost use Rattle.events_rules.specs.Events.{capture_read, events_left};
@@ -56,7 +56,7 @@ fn read_some(
     events: &mut [u32],
 ) -> Place
     requires { (entries.now ≡ table) × (length capture.now ≤ 65535) × (from.at < character_count (length capture.now))
-        × (character_count (length capture.now) ≤ length events.old) × (well_formed from.reader ≡ true) × (crcs.now ≡ crcEntries) }
+        × (character_count (length capture.now) ≤ length events.old) × (well_formed from.reader ≡ true) × (crcs.now ≡ crc_entries) }
     ensures { Ran (characters_of capture.now) from.at from.plus from.reader
         events.old result.at result.plus result.reader events.new
         × (from.at < result.at) }

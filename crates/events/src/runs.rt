@@ -1,7 +1,7 @@
 // Runs of user bytes, which are most of a capture: while a packet takes bytes, each clean data symbol is an event and a step of the CRC.
 ghost use Rattle.std.specs.Prelude.{◌≡◌, true, ◌+◌, ◌≤◌, ◌<◌, length};
 ghost use Rattle.character_table.specs.Table.{table};
-ghost use Rattle.crc.specs.Crc16.{crc_byte, entries as crcEntries};
+ghost use Rattle.crc.specs.Crc16.{crc_byte, entries as crc_entries};
 ghost use Rattle.capture_rules.specs.Capture.{character_count, characters_of};
 ghost use Rattle.packet_rules.specs.State.{well_formed};
 ghost use Rattle.events_rules.proofs.Runs.{Ran};
@@ -21,7 +21,7 @@ pub struct Taken {
 
 // The register after one more byte, by one load from the table.
 fn step_by(crcs: &[u16; 256], register: u16, byte: u8) -> u16
-    requires { crcs.now ≡ crcEntries }
+    requires { crcs.now ≡ crc_entries }
     ensures { result ≡ crc_byte register byte }
 {
     let low = (register ^ (byte as u16)) % 256;
@@ -38,7 +38,7 @@ fn take_bytes(
     events: &mut [u32],
 ) -> Taken
     requires { (entries.now ≡ table) × (length capture.now ≤ 65535) × (until ≤ character_count (length capture.now))
-        × (character_count (length capture.now) ≤ length events.old) × (from.at ≤ until) × (crcs.now ≡ crcEntries) }
+        × (character_count (length capture.now) ≤ length events.old) × (from.at ≤ until) × (crcs.now ≡ crc_entries) }
     ensures { Fed (characters_of capture.now) until from.at from.plus from.register
         events.old result.at result.plus result.register events.new }
 {
@@ -143,7 +143,7 @@ pub(crate) fn user_bytes(
 ) -> Place
     requires { (entries.now ≡ table) × (length capture.now ≤ 65535) × (until ≤ character_count (length capture.now))
         × (character_count (length capture.now) ≤ length events.old) × (from.at ≤ until) × (well_formed from.reader ≡ true)
-        × (crcs.now ≡ crcEntries) }
+        × (crcs.now ≡ crc_entries) }
     ensures { Ran (characters_of capture.now) from.at from.plus from.reader
         events.old result.at result.plus result.reader events.new }
 {

@@ -36,8 +36,8 @@ module _ (capture : List ℕ) (r : Reader) (d : ℤ) (room : ℕ) where
     gives_no_disparity h = simp (l, h)
 
     module _ (h : well_formed r ≡ true) (t : is_disparity d ≡ true) where
-      pub gives-short : room < character_count (length capture) → Gives 6
-      gives-short s = simp (l, h, t, lt-ltb room (character_count (length capture)) s)
+      pub gives_short : room < character_count (length capture) → Gives 6
+      gives_short s = simp (l, h, t, lt-ltb room (character_count (length capture)) s)
 
       pub gives_none : character_count (length capture) ≤ room → Gives 0
       gives_none s = simp (l, h, t, le-ltb room (character_count (length capture)) s)
