@@ -24,7 +24,7 @@ too_many n =
     (λ t. let h = ltb→lt 52428 n t in lt→ltb 65535 (byte_count n) (omega arith))
 
 -- what is answered is no refusal
-not_answered : (m n : ℕ) → answered m ≡ refused n → ⊥
+pub not_answered : (m n : ℕ) → answered m ≡ refused n → ⊥
 not_answered m n z = some_is_not_none (ap (λ (s : Said). s.number) z)
 
 module _ (capture : List ℕ) where

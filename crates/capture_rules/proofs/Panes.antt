@@ -1,17 +1,20 @@
 -- The pane keeps its rule, moves by one, and stays where it is past either end.
 -- Assumes nothing.
-use mathlib.Core.Path.{◌≡◌, refl}
+use mathlib.Core.Path.{◌≡◌, refl, sym, ap, ◌∙◌}
+use mathlib.Core.Option.{Option, none, some}
 use mathlib.Core.Bool.{Bool, true, false, cond}
 use mathlib.Core.List.{List}
 use Prim.Native.Nat.{ℕ, ◌+◌, ◌-◌, ◌≤◌, ◌<◌}
 use native.Mathlib.Omega.{arith}
 use lib.Dec.{T, eqb, ltb, leb→le, le→leb}
 use lib.ListN.{length}
-use borrow.Author.Tests.{lt-ltb, le-ltb, le-leb, lt-leb, ltb-true}
+use borrow.Author.Tests.{lt-ltb, le-ltb, le-leb, lt-leb, ltb-true, leb-true, leb-false}
+use Rattle.laws.proofs.Cases.{by_test}
 use Rattle.refusal.specs.Order.{Check, refusal_of, outcome}
 use Rattle.capture_rules.specs.Capture.{character_count, legal}
-use Rattle.capture_rules.specs.Calls.{answered, refused}
-use Rattle.capture_rules.specs.Panes.{is_place, pane_checks, place_says, moved_to, stayed, forward_from, back_from}
+use Rattle.capture_rules.specs.Calls.{Said, answered, refused}
+use Rattle.capture_rules.proofs.Laws.{not_answered}
+use Rattle.capture_rules.specs.Panes.{Move, is_place, pane_checks, place_says, moved_to, stayed, forward_from, back_from}
 
 -- what the calls come to, case by case, in the order of the refusals
 module _ (capture : List ℕ) (place : ℕ) where
@@ -69,6 +72,33 @@ module _ (capture : List ℕ) (place : ℕ) where
     pub back_at_start : place ≤ 0 → back_from capture place ≡ stayed place 0
     unfolding back_from pane_checks
     back_at_start g = simp (l, inside, le-ltb 0 place g)
+
+module _ (capture : List ℕ) (place : ℕ) where
+  -- where no place is answered a move is refused with the same number
+  follows : (cs : List Check) (n : ℕ) (x : Move) → refused n ≡ outcome cs refused (answered place) → outcome cs (stayed place) x ≡ stayed place n
+  follows cs n x e =
+      by_test (eqb (refusal_of cs) 0)
+      (λ t. absurd (not_answered place n (sym (e ∙ ap (λ (b : Bool). cond b (answered place) (refused (refusal_of cs))) t))))
+      (λ f. ap (λ (b : Bool). cond b x (stayed place (refusal_of cs))) f
+      ∙ ap (λ (s : Said). stayed place s.refusal) (sym (e ∙ ap (λ (b : Bool). cond b (answered place) (refused (refusal_of cs))) f)))
+
+  pub back_refused : (n : ℕ) → refused n ≡ place_says capture place → back_from capture place ≡ stayed place n
+  unfolding place_says back_from
+  back_refused n e = follows (pane_checks capture place) n _ e
+
+  -- a place that is answered is the one asked for, and the pane keeps its rule
+  pub place_answered : (p : ℕ) → answered p ≡ place_says capture place → (legal capture ≡ true) × (place ≤ character_count (length capture)) × (p ≡ place)
+  place_answered p e =
+      by_test (legal capture)
+      (λ l. by_test (is_place capture place)
+      (λ t. let h = leb-true place (character_count (length capture)) t in
+      (l, h, ap (λ (s : Said). or_zero s.number) (e ∙ place_inside capture place l h)))
+      (λ f. absurd (not_answered p 1 (e ∙ place_outside capture place l (leb-false place (character_count (length capture)) f)))))
+      (λ l. absurd (not_answered p 8 (e ∙ place_illegal capture place l)))
+    where
+      or_zero : Option ℕ → ℕ
+      or_zero none = 0
+      or_zero (some n) = n
 
 -- a fresh pane keeps the rule
 pub fresh_place : (capture : List ℕ) → T (is_place capture 0)

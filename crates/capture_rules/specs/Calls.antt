@@ -1,10 +1,9 @@
 -- What each call on a capture answers, and what it leaves in lent memory: document 01, "Captures" and "Numbered refusals".
-use Rattle.std.specs.Prelude.{ℕ, not, List, [], ◌∷◌, ◌++◌, ltb, length, get_or, drop}
+use Rattle.std.specs.Prelude.{ℕ, not, List, [], ◌∷◌, ◌++◌, ltb, length, get_or, drop, Result, Ok, Err}
 use Rattle.std.proofs.Math.Option.{Option, none, some}
 use Rattle.laws.specs.Groups.{all_below}
-use Rattle.refusal.specs.Order.{Check, check, outcome, left}
-use Rattle.capture_rules.specs.declared.Answer.{Answer}
-use Rattle.capture_rules.specs.declared.Answer.TheVariants.{Number, Refused}
+use Rattle.refusal.specs.declared.Refusal.{Refusal}
+use Rattle.refusal.specs.Order.{Check, check, number_of, outcome, left}
 use Rattle.capture_rules.specs.Capture.{character_count, characters_of, legal, byte_count, pack_of}
 
 -- an answer in document 01's terms: the refusal's number (0: not refused), and the number that is answered
@@ -18,9 +17,9 @@ answered n = record { refusal = 0; number = some n }
 abbrev pub refused : ℕ → Said
 refused n = record { refusal = n; number = none }
 
-abbrev pub says : Answer → Said
-says (Number n) = answered n
-says (Refused n) = refused n
+abbrev pub says : Result ℕ Refusal → Said
+says (Ok n) = answered n
+says (Err r) = refused (number_of r)
 
 -- 8: a capture with a wrong length or closing bit, or over 65,535 bytes, that is read
 abbrev pub readable : List ℕ → Check

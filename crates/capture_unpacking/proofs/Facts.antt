@@ -1,14 +1,14 @@
 -- Four characters in five bytes, and a result that is stored from the front of a list.
 -- Assumes nothing.
-use mathlib.Core.Path.{◌≡◌, refl, sym, ap, ap₂, ◌∙◌}
+use mathlib.Core.Path.{◌≡◌, refl, ap, ap₂, ◌∙◌}
 use mathlib.Core.List.{List, ◌++◌}
-use Prim.Native.Nat.{ℕ, ◌+◌, ◌-◌, ◌*◌, ◌/◌, ◌%◌, ◌^◌, ◌≤◌, ◌<◌}
+use Prim.Native.Nat.{ℕ, ◌+◌, ◌*◌, ◌/◌, ◌%◌, ◌^◌, ◌≤◌, ◌<◌}
 use native.Mathlib.Omega.{arith}
 use lib.Dec.{T}
-use lib.ListN.{length, get_or, set, take, drop, length-set}
-use lib.Seq.{drop-drop, drop_at, length-take-le}
+use lib.ListN.{length, get_or, set, take, drop}
+use Rattle.std.proofs.lemmas.List.{take_all, drop_all, append-nil}
 use Rattle.laws.specs.Groups.{all_below}
-use Rattle.laws.proofs.Stores.{store_next, stored_all}
+use Rattle.laws.proofs.Stores.{store_next}
 use Rattle.capture_rules.specs.Capture.{character_count, characters_of}
 use Rattle.capture_rules.proofs.Packing.{characters_length}
 use Rattle.capture.proofs.Facts.{in_bytes}
@@ -33,28 +33,13 @@ module _ (result old : List ℕ) where
       (one_more (k + 1) _ b (omega arith) (omega arith) (one_more k xs a (omega arith) (omega arith) e ea) eb ∙ ap Front two) ec ∙ ap Front three) ed
       ∙ ap Front four
 
-  -- past what is stored, all is as it was
-  pub past_front : (k n : ℕ) (xs : List ℕ) → k ≤ n → k ≤ length result → xs ≡ Front k → drop n xs ≡ drop n old
-  past_front k n xs h g e =
-      let cut : n ≡ k + (n - k) = omega arith in
-      ap₂ drop cut e
-      ∙ sym (drop-drop (n - k) k (Front k))
-      ∙ ap (drop (n - k)) (drop_at (take k result) (drop k old) k (length-take-le k result g))
-      ∙ drop-drop (n - k) k old
-      ∙ ap (λ (j : ℕ). drop j old) (sym cut)
-
-  -- first k are stored, and then the others, up to all n
-  pub all_stored : (k i n : ℕ) (mid xs : List ℕ) → k ≤ n → i ≡ n → length result ≡ n → mid ≡ Front k → xs ≡ take i result ++ drop i mid
-      → xs ≡ result ++ drop n old
-  all_stored k i n mid xs h e size m x =
-      x
-      ∙ ap (λ (j : ℕ). take j result ++ drop j mid) e
-      ∙ stored_all result mid n size
-      ∙ ap (λ (rest : List ℕ). result ++ rest) (past_front k n mid h (omega arith) m)
+  -- where all is stored it is the result
+  pub filled : (xs : List ℕ) (k : ℕ) → xs ≡ Front k → length result ≤ k → length old ≤ k → xs ≡ result
+  filled xs k e h g = e ∙ ap₂ (λ (front past : List ℕ). front ++ past) (take_all k result h) (drop_all k old g) ∙ append-nil result
 
 -- the four characters of five bytes are stored
 module _ (bytes old : List ℕ) (t : T (all_below 256 bytes)) (g : ℕ) (h : g < character_count (length bytes) / 4) (room : 4 * g + 4 ≤ length old) (xs : List ℕ)
-    (e : xs ≡ take (4 * g) (characters_of bytes) ++ drop (4 * g) old) (same : length xs ≡ length old) (ys : List ℕ)
+    (e : xs ≡ take (4 * g) (characters_of bytes) ++ drop (4 * g) old) (ys : List ℕ)
     (stored : ys ≡ set (set (set (set xs (4 * g) ((get_or bytes (5 * g) 0 * 256 + get_or bytes (5 * g + 1) 0) / 2 ^ 6 % 1024))
     (4 * g + 1) ((get_or bytes (5 * g + 1) 0 * 256 + get_or bytes (5 * g + 2) 0) / 2 ^ 4 % 1024))
     (4 * g + 2) ((get_or bytes (5 * g + 2) 0 * 256 + get_or bytes (5 * g + 3) 0) / 2 ^ 2 % 1024))
@@ -64,15 +49,13 @@ module _ (bytes old : List ℕ) (t : T (all_below 256 bytes)) (g : ℕ) (h : g <
       → (get_or bytes (5 * g + j) 0 * 256 + get_or bytes (5 * g + (j + 1)) 0) / 2 ^ (after % 8) % 1024 ≡ get_or (characters_of bytes) (4 * g + j) 0
   one_of j after l s = in_bytes bytes t (4 * g + j) (5 * g + j) (5 * g + (j + 1)) after (omega arith) (omega arith) (omega arith) (omega arith)
 
-  pub four_stored : (ys ≡ take (4 * (g + 1)) (characters_of bytes) ++ drop (4 * (g + 1)) old) × (length ys ≡ length old)
+  pub four_stored : ys ≡ take (4 * (g + 1)) (characters_of bytes) ++ drop (4 * (g + 1)) old
   four_stored =
       let long = characters_length bytes in
-      let next : 4 * g + 4 ≡ 4 * (g + 1) = omega arith in (
-        stored ∙ four_more (characters_of bytes) old (4 * g) xs _ _ _ _ (omega arith) room e
-            (in_bytes bytes t (4 * g) (5 * g) (5 * g + 1) 6 (omega arith) refl (omega arith) (omega arith))
-            (one_of 1 4 (omega arith) refl)
-            (one_of 2 2 (omega arith) refl)
-            (one_of 3 0 (omega arith) refl)
-            ∙ ap (λ (n : ℕ). take n (characters_of bytes) ++ drop n old) next,
-        ap length stored ∙ simp length-set same,
-      )
+      let next : 4 * g + 4 ≡ 4 * (g + 1) = omega arith in
+      stored ∙ four_more (characters_of bytes) old (4 * g) xs _ _ _ _ (omega arith) room e
+      (in_bytes bytes t (4 * g) (5 * g) (5 * g + 1) 6 (omega arith) refl (omega arith) (omega arith))
+      (one_of 1 4 (omega arith) refl)
+      (one_of 2 2 (omega arith) refl)
+      (one_of 3 0 (omega arith) refl)
+      ∙ ap (λ (n : ℕ). take n (characters_of bytes) ++ drop n old) next

@@ -1,12 +1,12 @@
 // Unpacking: a capture's characters, four from five bytes.
 #![tactic(auto)]
 
-ghost use Rattle.std.specs.Prelude.{◌≡◌, ◌++◌, ◌+◌, ◌*◌, ◌/◌, ◌%◌, ◌^◌, ◌≤◌, length, take, drop, set};
+ghost use Rattle.std.specs.Prelude.{◌≡◌, ◌+◌, ◌*◌, ◌/◌, ◌%◌, ◌^◌, ◌≤◌, length, take, set};
 ghost use Rattle.capture_rules.specs.Capture.{character_count, characters_of};
 ghost use Rattle.capture_rules.specs.Calls.{says, unpack_says, unpack_leaves};
 
-use capture::{character_of, is_legal, ten_bits};
-use capture_rules::Answer;
+use capture::{Legal, character_of, ten_bits};
+use refusal::Refusal;
 
 // Five bytes hold four characters, which are stored from a place on.
 fn store_four(a: u8, b: u8, c: u8, d: u8, e: u8, i: usize, out: &mut [u16])
@@ -20,49 +20,45 @@ fn store_four(a: u8, b: u8, c: u8, d: u8, e: u8, i: usize, out: &mut [u16])
     out[i + 3] = ten_bits(d, e, 0) as u16;
 }
 
-// So many fours, each read before its first character is stored.
-fn store_fours(capture: &[u8], fours: usize, out: &mut [u16])
-    requires { (length capture.now ≤ 65535) × (4 * fours ≤ character_count (length capture.now)) × (4 * fours ≤ length out.old) }
-    ensures { out.new ≡ take (4 * fours) (characters_of capture.now) ++ drop (4 * fours) out.old }
+// Fills `out` with so many fours, each read before its first character is stored.
+fn store_fours(capture: Legal, out: &mut [u16])
+    requires { (length out.old % 4 ≡ 0) × (length out.old ≤ character_count (length capture.bytes.now)) }
+    ensures { out.new ≡ take (length out.old) (characters_of capture.entry.bytes.now) }
 {
-    let mut g = 0;
-    while g < fours {
+    let bytes = capture.bytes;
+    for g in 0..out.len() / 4 {
         let k = 5 * g;
-        let a = capture[k];
-        let b = capture[k + 1];
-        let c = capture[k + 2];
-        let d = capture[k + 3];
-        let e = capture[k + 4];
-        store_four(a, b, c, d, e, 4 * g, &mut *out);
-        g += 1;
+        let a = bytes[k];
+        let b = bytes[k + 1];
+        let c = bytes[k + 2];
+        let d = bytes[k + 3];
+        let e = bytes[k + 4];
+        store_four(a, b, c, d, e, 4 * g, out);
     }
 }
 
-// The fours, and then the last 0 to 3 characters.
-fn store_characters(capture: &[u8], n: usize, out: &mut [u16])
-    requires { (length capture.now ≤ 65535) × (n ≡ character_count (length capture.now)) × (n ≤ length out.old) }
-    ensures { out.new ≡ characters_of capture.now ++ drop n out.old }
+// Fills `out`, which is as long as the result: the fours, and then the last 0 to 3 characters.
+fn store_characters(capture: Legal, out: &mut [u16])
+    requires { length out.old ≡ character_count (length capture.bytes.now) }
+    ensures { out.new ≡ characters_of capture.entry.bytes.now }
 {
-    let fours = n / 4;
-    store_fours(capture, fours, out);
-    let mut i = 4 * fours;
-    while i < n {
-        out[i] = character_of(capture, i);
-        i += 1;
+    let at = out.len() / 4 * 4;
+    let (fours, rest) = out.split_at_mut(at);
+    store_fours(capture, fours);
+    for (i, character) in rest.iter_mut().enumerate() {
+        *character = character_of(capture.bytes, at + i);
     }
 }
 
 // Unpacks a capture's characters into the front of `out`; answers their number.
-pub fn unpack(capture: &[u8], out: &mut [u16]) -> Answer
+pub fn unpack(capture: &[u8], out: &mut [u16]) -> Result<usize, Refusal>
     ensures { (says result ≡ unpack_says capture.now (length out.old)) × (out.new ≡ unpack_leaves capture.now out.old) }
 {
-    if !is_legal(capture) {
-        return Answer::Refused(refusal::BAD_CAPTURE);
-    }
-    let count = 8 * capture.len() / 10;
+    let capture = Legal::new(capture)?;
+    let count = capture.count();
     if out.len() < count {
-        return Answer::Refused(refusal::SHORT_OUTPUT);
+        return Err(Refusal::ShortOutput);
     }
-    store_characters(capture, count, out);
-    Answer::Number(count)
+    store_characters(capture, &mut out[..count]);
+    Ok(count)
 }

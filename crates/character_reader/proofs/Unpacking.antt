@@ -3,6 +3,7 @@
 use mathlib.Core.Path.{◌≡◌, refl, ◌∙◌, ap}
 use mathlib.Core.Bool.{Bool, true, false}
 use Prim.Native.Nat.{ℕ, ◌/◌, ◌%◌}
+use native.Mathlib.Omega.{arith}
 use lib.Dec.{eqb}
 use lib.IntN.{ℤ}
 use borrow.Author.Tests.{eq-eqb, ne_eqb}
@@ -23,9 +24,9 @@ module _ (n : ℕ) (d : ℤ) (hd : d ≡ packed_disparity n) where
   unfolding unpacked
   unpack_clean h = ap (clean (packed_symbol n)) same ∙ rw (eq-eqb (n / 512 % 4) 0 h)
 
-  pub unpack_invalid : (n / 512 % 4 ≡ 0 → ⊥) → n / 512 % 4 ≡ 1 → invalid (again d) ≡ unpacked n
+  pub unpack_invalid : n / 512 % 4 ≡ 1 → invalid (again d) ≡ unpacked n
   unfolding unpacked
-  unpack_invalid g h = ap invalid same ∙ rw (ne_eqb (n / 512 % 4) 0 g, eq-eqb (n / 512 % 4) 1 h)
+  unpack_invalid h = ap invalid same ∙ rw (ne_eqb (n / 512 % 4) 0 (λ g. absurd (omega (arith, g, h))), eq-eqb (n / 512 % 4) 1 h)
 
   pub unpack_wrong : (n / 512 % 4 ≡ 0 → ⊥) → (n / 512 % 4 ≡ 1 → ⊥) → wrong_disparity (packed_symbol n) (again d) ≡ unpacked n
   unfolding unpacked

@@ -8,7 +8,6 @@ use Prim.Native.Nat.{ℕ, ◌<◌, ◌≤◌}
 use lib.Dec.{ltb}
 use lib.IntN.{ℤ, neg_ℤ}
 use borrow.Author.Tests.{le-ltb, lt-ltb}
-use native.Mathlib.Omega.{arith}
 use Rattle.refusal.specs.Order.{check, outcome}
 use Rattle.laws.proofs.Cases.{some_is_not_none}
 use Rattle.symbol.specs.Symbols.{is_writable}

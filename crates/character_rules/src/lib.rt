@@ -3,15 +3,17 @@
 
 use symbol::Symbol;
 
-#[derive(Clone, Copy)]
-pub enum Encoded {
-    // The character's number, and the closing disparity.
-    Written { character: u16, disparity: i32 },
-    // The number of the refusal.
-    Refused(u8),
+// A symbol that was written.
+#[derive(Clone, Copy, Debug, PartialEq, Eq)]
+pub struct Encoded {
+    // The character's number.
+    pub character: u16,
+    // The closing disparity.
+    pub disparity: i32,
 }
 
-#[derive(Clone, Copy)]
+// A character that was read.
+#[derive(Clone, Copy, Debug, PartialEq, Eq)]
 pub enum Decoded {
     // Legal at the disparity in force: the symbol, and the disparity after it.
     Clean(Symbol, i32),
@@ -19,22 +21,4 @@ pub enum Decoded {
     WrongDisparity(Symbol, i32),
     // Legal at neither: the disparity is kept.
     Invalid(i32),
-    // The number of the refusal.
-    Refused(u8),
-}
-
-#[derive(Clone, Copy)]
-pub enum RunRead {
-    // The disparity after the run.
-    Read(i32),
-    // The number of the refusal.
-    Refused(u8),
-}
-
-#[derive(Clone, Copy)]
-pub enum RunWritten {
-    // The disparity after the run.
-    Written(i32),
-    // The number of the refusal.
-    Refused(u8),
 }

@@ -3,7 +3,7 @@
 use mathlib.Core.Path.{◌≡◌, ◌∙◌, ap, ap₂}
 use mathlib.Core.Bool.{Bool, true, false, cond}
 use Prim.Native.Nat.{ℕ, ◌+◌, ◌*◌, ◌/◌, ◌%◌}
-use lib.Dec.{T, eqb}
+use lib.Dec.{T}
 use lib.IntN.{ℤ, neg_ℤ}
 use borrow.Author.Tests.{eq-eqb, ne_eqb}
 use Rattle.symbol.specs.declared.Symbol.{Symbol}
@@ -14,17 +14,13 @@ use Rattle.character_rules.specs.Answers.{written}
 use Rattle.disparity.proofs.Signed.{again, back}
 
 -- a block of the list, set at the disparity in force
-pub six_is : (control : Bool) (x b r : ℕ) (ch plus : Bool)
-    → b ≡ six_listed control x → ch ≡ six_changes control x b → r ≡ in_force 63 ch plus b → r ≡ six_block control x plus
+pub six_is : (control : Bool) (x b r : ℕ) (plus : Bool) → b ≡ six_listed control x → r ≡ in_force 63 (six_changes control x b) plus b → r ≡ six_block control x plus
 unfolding six_block
-six_is control x b r ch plus e f g =
-    g ∙ ap (λ (t : Bool). in_force 63 t plus b) f ∙ ap (λ (v : ℕ). in_force 63 (six_changes control x v) plus v) e
+six_is control x b r plus e g = g ∙ ap (λ (v : ℕ). in_force 63 (six_changes control x v) plus v) e
 
-pub four_is : (control : Bool) (y b r : ℕ) (ch plus : Bool)
-    → b ≡ four_listed control y → ch ≡ four_changes control y b → r ≡ in_force 15 ch plus b → r ≡ four_by_list control y plus
+pub four_is : (control : Bool) (y b r : ℕ) (plus : Bool) → b ≡ four_listed control y → r ≡ in_force 15 (four_changes control y b) plus b → r ≡ four_by_list control y plus
 unfolding four_by_list
-four_is control y b r ch plus e f g =
-    g ∙ ap (λ (t : Bool). in_force 15 t plus b) f ∙ ap (λ (v : ℕ). in_force 15 (four_changes control y v) plus v) e
+four_is control y b r plus e g = g ∙ ap (λ (v : ℕ). in_force 15 (four_changes control y v) plus v) e
 
 -- the four-bit block: of control; of y other than 7; the two alternates; and else
 pub four_control : (control plus : Bool) (x y : ℕ) → control ≡ true → four_by_list control y plus ≡ four_block control x y plus
@@ -48,13 +44,6 @@ module _ (control plus low high : Bool) (x y : ℕ) (h : control ≡ false) (g :
 
   pub four_else : low ≡ false → high ≡ alternate_at_plus x plus → high ≡ false → four_by_list control y plus ≡ four_block control x y plus
   four_else t f u = rw (t, ← f, u) at seven
-
--- the last of the alternates' tests
-pub minus_last : (plus : Bool) (x : ℕ) → plus ≡ false → (x ≡ 17 → ⊥) → (x ≡ 18 → ⊥) → eqb x 20 ≡ alternate_at_minus x plus
-minus_last plus x h i j = simp (h, ne_eqb x 17 i, ne_eqb x 18 j)
-
-pub plus_last : (plus : Bool) (x : ℕ) → plus ≡ true → (x ≡ 11 → ⊥) → (x ≡ 13 → ⊥) → eqb x 14 ≡ alternate_at_plus x plus
-plus_last plus x h i j = simp (h, ne_eqb x 11 i, ne_eqb x 13 j)
 
 -- the whole character, block by block
 module _

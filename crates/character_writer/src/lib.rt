@@ -1,15 +1,16 @@
 // The writer of characters: two blocks, each chosen at the disparity in force when it begins.
 #![tactic(auto)]
 
-ghost use Rattle.std.specs.Prelude.{◌≡◌, ◌<◌, ◌≤◌, cond, T, neg_ℤ};
+ghost use Rattle.std.specs.Prelude.{◌≡◌, ◌/◌, ◌%◌, ◌<◌, ◌≤◌, ◌||◌, cond, eqb, T, neg_ℤ};
 ghost use Rattle.character_rules.specs.Disparity.{is_disparity};
-ghost use Rattle.character_rules.specs.Blocks.{unbalanced, in_force, six_listed, six_changes, six_block};
-ghost use Rattle.character_rules.specs.Blocks.{four_listed, four_changes, four_by_list, alternate_at_minus, alternate_at_plus, four_block, character, closing};
+ghost use Rattle.character_rules.specs.Blocks.{unbalanced, in_force, six_listed, six_block, four_listed, four_by_list};
+ghost use Rattle.character_rules.specs.Blocks.{alternate_at_minus, alternate_at_plus, four_block, character, closing};
 ghost use Rattle.character_rules.specs.Answers.{written, writing_says};
 ghost use Rattle.character_rules.specs.Writing.{writing};
 
 use character_rules::Encoded;
 use disparity::{is_disparity, is_plus};
+use refusal::Refusal;
 use symbol::Symbol;
 
 // Six-bit blocks at -1, x from 0 to 31.
@@ -29,23 +30,12 @@ const CONTROL_FOUR_BLOCKS: [u8; 8] = [
     0b1011, 0b0110, 0b1010, 0b1100, 0b1101, 0b0101, 0b1001, 0b0111,
 ];
 
-// The unbalanced blocks: bit b is one if b has another number of ones than of zeros.
-const SIX_UNBALANCED: u64 = 0xfee9e997e997977f;
-
-const FOUR_UNBALANCED: u16 = 0xe997;
-
-fn six_unbalanced(b: u8) -> bool
+// A block of twice `half` bits with another number of ones than of zeros.
+fn unbalanced(half: u32, b: u8) -> bool
     requires { b < 64 }
-    ensures { result ≡ unbalanced 3 b }
+    ensures { result ≡ unbalanced half b }
 {
-    (SIX_UNBALANCED >> b) % 2 == 1
-}
-
-fn four_unbalanced(b: u8) -> bool
-    requires { b < 16 }
-    ensures { result ≡ unbalanced 2 b }
-{
-    (FOUR_UNBALANCED >> b) % 2 == 1
+    b.count_ones() != half
 }
 
 // The disparity after a block: an unbalanced one turns it over.
@@ -53,166 +43,112 @@ fn turn(over: bool, d: i32) -> i32
     requires { T (is_disparity d) }
     ensures { (result ≡ cond over (neg_ℤ d) d) × T (is_disparity result) }
 {
-    if over {
-        return -d;
-    }
-    d
+    if over { -d } else { d }
 }
 
-// A block of the list at the disparity in force.
-fn in_force(whole: u8, changes: bool, plus: bool, b: u8) -> u8
-    requires { b ≤ whole }
-    ensures { (result ≡ in_force whole changes plus b) × (result ≤ whole) }
+// A block of the lists, for the number k, at the disparity in force: complemented at +1 where it is unbalanced, of control, or that for PAIRED.
+fn in_force<const WHOLE: u8, const HALF: u32, const PAIRED: u8>(
+    control: bool,
+    k: u8,
+    plus: bool,
+    b: u8,
+) -> u8
+    requires { (b ≤ WHOLE) × (WHOLE < 64) }
+    ensures { (result ≡ in_force WHOLE (control || (unbalanced HALF b || eqb k PAIRED)) plus b) × (result ≤ WHOLE) }
 {
-    if changes {
-        if plus {
-            return whole - b;
-        }
-    }
-    b
+    let changes = control || unbalanced(HALF, b) || k == PAIRED;
+    if changes && plus { WHOLE - b } else { b }
 }
 
-fn six_listed(control: bool, x: usize) -> u8
-    requires { x < 32 }
-    ensures { (result ≡ six_listed control x) × (result < 64) }
+// The six-bit block at -1 for x, the lowest five bits of the byte.
+fn six_listed(s: Symbol) -> u8
+    ensures { (result ≡ six_listed s.control (s.byte % 32)) × (result < 64) }
 {
-    if control {
-        if x == 28 {
-            return 0b001111;
-        }
+    let x = (s.byte % 32) as usize;
+    if s.control && x == 28 {
+        0b001111
+    } else {
+        SIX_BLOCKS[x]
     }
-    SIX_BLOCKS[x]
 }
 
-fn six_changes(control: bool, x: usize, b: u8) -> bool
-    requires { b < 64 }
-    ensures { result ≡ six_changes control x b }
+fn six_block(s: Symbol, plus: bool) -> u8
+    ensures { (result ≡ six_block s.control (s.byte % 32) plus) × (result < 64) }
 {
-    if control {
-        return true;
-    }
-    if six_unbalanced(b) {
-        return true;
-    }
-    x == 7
+    in_force::<0b111111, 3, 7>(s.control, s.byte % 32, plus, six_listed(s))
 }
 
-fn six_block(control: bool, x: usize, plus: bool) -> u8
-    requires { x < 32 }
-    ensures { (result ≡ six_block control x plus) × (result < 64) }
+// The four-bit block at -1 for y, the highest three bits of the byte. No twin of the six-bit block: that has one array and an exception, this has two arrays.
+fn four_listed(s: Symbol) -> u8
+    ensures { (result ≡ four_listed s.control (s.byte / 32)) × (result < 16) }
 {
-    let b = six_listed(control, x);
-    in_force(0b111111, six_changes(control, x, b), plus, b)
-}
-
-fn four_listed(control: bool, y: usize) -> u8
-    requires { y < 8 }
-    ensures { (result ≡ four_listed control y) × (result < 16) }
-{
-    if control {
-        return CONTROL_FOUR_BLOCKS[y];
+    let y = (s.byte / 32) as usize;
+    if s.control {
+        CONTROL_FOUR_BLOCKS[y]
+    } else {
+        FOUR_BLOCKS[y]
     }
-    FOUR_BLOCKS[y]
 }
 
-fn four_changes(control: bool, y: usize, b: u8) -> bool
-    requires { b < 16 }
-    ensures { result ≡ four_changes control y b }
+fn four_by_list(s: Symbol, plus: bool) -> u8
+    ensures { (result ≡ four_by_list s.control (s.byte / 32) plus) × (result < 16) }
 {
-    if control {
-        return true;
-    }
-    if four_unbalanced(b) {
-        return true;
-    }
-    y == 3
+    in_force::<0b1111, 2, 3>(s.control, s.byte / 32, plus, four_listed(s))
 }
 
-fn four_by_list(control: bool, y: usize, plus: bool) -> u8
-    requires { y < 8 }
-    ensures { (result ≡ four_by_list control y plus) × (result < 16) }
-{
-    let b = four_listed(control, y);
-    in_force(0b1111, four_changes(control, y, b), plus, b)
-}
-
-fn alternate_at_minus(x: usize, plus: bool) -> bool
+fn alternate_at_minus(x: u8, plus: bool) -> bool
     ensures { result ≡ alternate_at_minus x plus }
 {
-    if plus {
-        return false;
-    }
-    if x == 17 {
-        return true;
-    }
-    if x == 18 {
-        return true;
-    }
-    x == 20
+    !plus && matches!(x, 17 | 18 | 20)
 }
 
-fn alternate_at_plus(x: usize, plus: bool) -> bool
+fn alternate_at_plus(x: u8, plus: bool) -> bool
     ensures { result ≡ alternate_at_plus x plus }
 {
-    if !plus {
-        return false;
-    }
-    if x == 11 {
-        return true;
-    }
-    if x == 13 {
-        return true;
-    }
-    x == 14
+    plus && matches!(x, 11 | 13 | 14)
 }
 
-fn four_block(control: bool, x: usize, y: usize, plus: bool) -> u8
-    requires { y < 8 }
-    ensures { (result ≡ four_block control x y plus) × (result < 16) }
+fn four_block(s: Symbol, plus: bool) -> u8
+    ensures { (result ≡ four_block s.control (s.byte % 32) (s.byte / 32) plus) × (result < 16) }
 {
-    if control {
-        return four_by_list(control, y, plus);
+    let x = s.byte % 32;
+    let y = s.byte / 32;
+    let listed = four_by_list(s, plus);
+    if s.control || y != 7 {
+        listed
+    } else if alternate_at_minus(x, plus) {
+        0b0111
+    } else if alternate_at_plus(x, plus) {
+        0b1000
+    } else {
+        listed
     }
-    if y != 7 {
-        return four_by_list(control, y, plus);
-    }
-    if alternate_at_minus(x, plus) {
-        return 0b0111;
-    }
-    if alternate_at_plus(x, plus) {
-        return 0b1000;
-    }
-    four_by_list(control, y, plus)
 }
 
 // The two blocks, and the disparity turned over by each that is unbalanced.
 fn write_blocks(s: Symbol, d: i32) -> Encoded
     requires { T (is_disparity d) }
-    ensures { writing_says result ≡ written (character s d) (closing s d) }
+    ensures { written result.character result.disparity ≡ written (character s d) (closing s d) }
 {
-    let byte = s.byte;
-    let control = s.control;
-    let x = (byte % 32) as usize;
-    let y = (byte / 32) as usize;
-    let first = six_block(control, x, is_plus(d));
-    let between = turn(six_unbalanced(first), d);
-    let second = four_block(control, x, y, is_plus(between));
-    let closing = turn(four_unbalanced(second), between);
-    Encoded::Written {
-        character: (first as u16) * 16 + (second as u16),
+    let first = six_block(s, is_plus(d));
+    let between = turn(unbalanced(3, first), d);
+    let second = four_block(s, is_plus(between));
+    let closing = turn(unbalanced(2, second), between);
+    Encoded {
+        character: u16::from(first) * 16 + u16::from(second),
         disparity: closing,
     }
 }
 
 // A symbol as a character at a disparity, with the closing disparity; or refusal 1 or 3.
-pub fn write(symbol: Symbol, disparity: i32) -> Encoded
+pub fn write(symbol: Symbol, disparity: i32) -> Result<Encoded, Refusal>
     ensures { writing_says result ≡ writing symbol disparity }
 {
     if !is_disparity(disparity) {
-        return Encoded::Refused(refusal::OUT_OF_RANGE);
+        return Err(Refusal::OutOfRange);
     }
     if !symbol.is_writable() {
-        return Encoded::Refused(refusal::NOT_WRITABLE);
+        return Err(Refusal::NotWritable);
     }
-    write_blocks(symbol, disparity)
+    Ok(write_blocks(symbol, disparity))
 }

@@ -4,9 +4,9 @@
 pub mod table;
 
 ghost use Rattle.std.specs.Prelude.{◌≡◌};
-ghost use Rattle.crc.specs.Crc16.{crc_start, crc_byte, crc_from, check_bytes_of, crc_of, entries};
+ghost use Rattle.crc.specs.Crc16.{crc_start, crc_byte, crc_from, check_bytes_of, crc_of};
 
-use crate::table::TABLE;
+use crate::table::Table;
 
 pub const START: u16 = 0xFFFF;
 
@@ -26,25 +26,14 @@ pub fn step(register: u16, byte: u8) -> u16
     (register / 256) ^ ((out * 256) ^ ((out * 8) ^ (out / 16)))
 }
 
-// The same by one load from the table, which is lent.
-fn step_by(table: &[u16; 256], register: u16, byte: u8) -> u16
-    requires { table.now ≡ entries }
-    ensures { result ≡ crc_byte register byte }
-{
-    let low = (register ^ (byte as u16)) % 256;
-    (register / 256) ^ table[low as usize]
-}
-
 // The register after a run of bytes. The table is taken once.
 pub fn run(register: u16, bytes: &[u8]) -> u16
     ensures { result ≡ crc_from register bytes.now }
 {
-    let table = TABLE;
+    let table = Table::new();
     let mut r = register;
-    let mut i = 0;
-    while i < bytes.len() {
-        r = step_by(&table, r, bytes[i]);
-        i += 1;
+    for &byte in bytes {
+        r = table.step(r, byte);
     }
     r
 }

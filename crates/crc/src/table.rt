@@ -1,7 +1,41 @@
-// The table that a run of bytes is stepped with.
+// The table that a run of bytes is stepped with, in a struct that can hold nothing else.
+ghost use Rattle.std.specs.Prelude.{◌≡◌, ℕ, List};
+ghost use Rattle.crc.specs.Crc16.{crc_byte, entries as table};
+
+use std::marker::Model;
+
+// Taken once for a run of bytes, and lent to each step.
+#[derive(Drop)]
+pub struct Table {
+    entries: [u16; 256],
+}
+
+impl Model for Table {
+    ghost Value = { List ℕ };
+
+    ghost view = { λ t. t.entries };
+
+    ghost invariant = { λ t. t.entries ≡ table };
+}
+
+impl Table {
+    pub fn new() -> Table
+        ensures { result ≡ table }
+    {
+        Table { entries: ENTRIES }
+    }
+
+    // The register after one more byte, by one load.
+    pub fn step(&self, register: u16, byte: u8) -> u16
+        ensures { result ≡ crc_byte register byte }
+    {
+        let low = (register ^ u16::from(byte)) % 256;
+        (register / 256) ^ self.entries[low as usize]
+    }
+}
 
 // The register after each byte, from a register of zeros.
-pub const TABLE: [u16; 256] = [
+const ENTRIES: [u16; 256] = [
     0x0000, 0x1189, 0x2312, 0x329B, 0x4624, 0x57AD, 0x6536, 0x74BF, 0x8C48, 0x9DC1, 0xAF5A, 0xBED3,
     0xCA6C, 0xDBE5, 0xE97E, 0xF8F7, 0x1081, 0x0108, 0x3393, 0x221A, 0x56A5, 0x472C, 0x75B7, 0x643E,
     0x9CC9, 0x8D40, 0xBFDB, 0xAE52, 0xDAED, 0xCB64, 0xF9FF, 0xE876, 0x2102, 0x308B, 0x0210, 0x1399,

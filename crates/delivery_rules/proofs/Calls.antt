@@ -6,7 +6,7 @@ use mathlib.Core.List.{List}
 use Prim.Native.Nat.{ℕ}
 use native.Mathlib.Omega.{arith}
 use lib.Dec.{eqb}
-use lib.ListN.{length, get_or, take, drop}
+use lib.ListN.{length, take, drop}
 use lib.Seq.{take_at}
 use borrow.Author.Tests.{eqb-true, eqb-false, ltb-true}
 use Rattle.laws.proofs.Cases.{by_cases, both_true, false_is_not_true}
@@ -14,13 +14,9 @@ use Rattle.refusal.specs.Order.{refusal_of}
 use Rattle.refusal.proofs.Laws.{refused}
 use Rattle.retry_rules.specs.declared.Sender.{Sender}
 use Rattle.retry_rules.specs.declared.Receiver.{Receiver}
-use Rattle.retry_rules.specs.declared.Answered.{Answered}
-use Rattle.retry_rules.specs.declared.Offered.{Offered}
-use Rattle.retry_rules.specs.declared.Sent.{Sent}
-use Rattle.retry_rules.specs.declared.Ticked.{Ticked}
-use Rattle.retry_rules.specs.declared.Arrived.{Arrived}
+use Rattle.retry_rules.specs.Answers.{Answered, Offered, Sent, Ticked, Arrived}
 use Rattle.retry_rules.specs.Numbers.{among_last}
-use Rattle.retry_rules.specs.States.{is_down, receiver_rule}
+use Rattle.retry_rules.specs.States.{is_down, receiver_rule, slot_in}
 use Rattle.retry_rules.specs.Lent.{Content, laid, buffer_at, held_length, held_bytes, held_content}
 use Rattle.retry_rules.specs.Refused.{refused_sender, refused_tick}
 use Rattle.retry_rules.specs.Offer.{offer_checks, free_slot, stored_in, offer_of, offer_buffers}
@@ -109,7 +105,7 @@ goes_out s buffers output P o t p =
     (record {
       sent = true;
       number = send_point c;
-      content = record { channel = get_or s.slots.channels i 0; bad = get_or s.slots.bad i false; bytes = l };
+      content = record { channel = (slot_in s i).channel; bad = (slot_in s i).bad; bytes = l };
       state = record { counters = one_sent c; slots = s.slots };
     }))
     (sym same) p

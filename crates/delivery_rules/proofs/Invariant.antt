@@ -155,7 +155,7 @@ module _ (S : ℕ) (w : World ours) (v : Inv S w) where
       let f = v.follows in
       record {
         rule = k;
-        eight = record { lengths = v.eight.lengths; channels = v.eight.channels; bad = v.eight.bad };
+        eight = record { slots = v.eight.slots };
         size = v.size;
         lent = v.lent;
         receives = v.receives;

@@ -154,7 +154,7 @@ module _ (S : ℕ) (w : World ours) (v : Inv S w) where
       let gone = gone_is t in
       record {
         rule = rule;
-        eight = record { lengths = v.eight.lengths; channels = v.eight.channels; bad = v.eight.bad };
+        eight = record { slots = v.eight.slots };
         size = v.size;
         lent = v.lent;
         receives = v.receives;

@@ -2,9 +2,7 @@
 use Rattle.std.specs.Prelude.{ℕ, Bool, true, false, cond, List, eqb, length, take}
 use Rattle.retry_rules.specs.declared.Sender.{Sender}
 use Rattle.retry_rules.specs.declared.Receiver.{Receiver}
-use Rattle.retry_rules.specs.declared.Offered.{Offered}
-use Rattle.retry_rules.specs.declared.Sent.{Sent}
-use Rattle.retry_rules.specs.declared.Arrived.{Arrived}
+use Rattle.retry_rules.specs.Answers.{Offered, Sent, Arrived}
 use Rattle.retry_rules.specs.Fresh.{fresh_sender_of, fresh_receiver_of}
 use Rattle.retry_rules.specs.Offer.{offer_of, offer_buffers}
 use Rattle.retry_rules.specs.Send.{send_of, send_output}

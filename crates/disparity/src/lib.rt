@@ -1,4 +1,4 @@
-// Disparity is -1 or +1, a signed number.
+// Disparity is -1 or +1, a signed number. It stays an i32, the customer's form: an unbalanced block negates it.
 #![tactic(auto)]
 
 ghost use Rattle.std.specs.Prelude.{◌≡◌};
@@ -19,17 +19,11 @@ pub fn is_minus(d: i32) -> bool
 pub fn is_disparity(d: i32) -> bool
     ensures { result ≡ is_disparity d }
 {
-    if is_plus(d) {
-        return true;
-    }
-    is_minus(d)
+    is_plus(d) || is_minus(d)
 }
 
 pub fn disparity_of(plus: bool) -> i32
     ensures { result ≡ disparity_of plus }
 {
-    if plus {
-        return 1;
-    }
-    -1
+    if plus { 1 } else { -1 }
 }

@@ -1,16 +1,17 @@
-// An event as a number: the event's own, the segment number and the value.
+// An event as a number: the event's own, the segment number and the value. C is given it, so it is a number and no enum.
 #![tactic(auto)]
 
 ghost use Rattle.std.specs.Prelude.{◌≡◌, ◌+◌, ◌*◌, ◌<◌};
-ghost use Rattle.packet_rules.specs.Answers.{event_says};
+ghost use Rattle.packet_rules.specs.Answers.{answer_says};
 ghost use Rattle.events_rules.specs.Numbers.{mark_number, packed_event};
 
 use packet_rules::Event;
+use refusal::Refusal;
 
 fn mark_number(mark: bool) -> u8
     ensures { result ≡ mark_number mark }
 {
-    if mark { 1 } else { 0 }
+    u8::from(mark)
 }
 
 // The event's number, the segment number and the value, as one.
@@ -18,20 +19,24 @@ fn number_of(event: u32, segment: u8, value: u8) -> u32
     requires { event < 65536 }
     ensures { result ≡ 65536 * event + 256 * segment + value }
 {
-    event * 65536 + segment as u32 * 256 + value as u32
+    event * 65536 + u32::from(segment) * 256 + u32::from(value)
 }
 
-pub fn event_number(e: Event) -> u32
-    ensures { result ≡ packed_event (event_says e) }
+// The number of what a step answers; 0 for a refusal, as for nothing.
+#[tactic(auto, unfolding(events_rules::specs::Numbers::packed_event))]
+pub fn event_number(said: Result<Event, Refusal>) -> u32
+    ensures { result ≡ packed_event (answer_says said) }
 {
-    match e {
+    let Ok(event) = said else {
+        return 0;
+    };
+    match event {
         Event::Nothing => 0,
-        Event::Violation(n) => number_of(1, 0, n),
+        Event::Violation(violation) => number_of(1, 0, violation.number()),
         Event::StartData(channel) => number_of(2, 0, channel),
         Event::StartPriority { channel, segment } => number_of(3, segment, channel),
         Event::Byte(b) => number_of(4, 0, b),
         Event::End { bad } => number_of(5, 0, mark_number(bad)),
         Event::Lmp { nack, segment } => number_of(6, segment, mark_number(nack)),
-        Event::Refused(_) => 0,
     }
 }

@@ -9,14 +9,17 @@ use borrow.Author.Tests.{lt-ltb, le-ltb, ltb-false}
 use lib.Dec.{ltb}
 use lib.IntN.{ℤ}
 use lib.ListN.{length, drop}
-use Rattle.refusal.specs.Order.{check, refusal_of}
+use Rattle.std.specs.Prelude.{Result, Err}
+use Rattle.refusal.specs.declared.Refusal.{Refusal}
+use Rattle.refusal.specs.Order.{check, number_of, refusal_of}
 use Rattle.refusal.proofs.Laws.{done, refused, hands_back}
+use Rattle.refusal.proofs.Answers.{has_number}
 use Rattle.character_rules.specs.Disparity.{is_disparity}
 use Rattle.character_rules.specs.Results.{run_closing}
 use Rattle.capture_rules.specs.Capture.{character_count, characters_of, legal}
 use Rattle.packet_rules.specs.declared.Reader.{Reader}
 use Rattle.packet_rules.specs.State.{well_formed}
-use Rattle.events_rules.specs.declared.CaptureRead.{CaptureRead}
+use Rattle.events_rules.specs.Answers.{CaptureRead, read_says, read_beside}
 use Rattle.events_rules.specs.Events.{events_of, reader_after, capture_checks, not_read_capture, capture_read, events_left}
 
 -- ---- which refusal is given
@@ -96,3 +99,20 @@ module _ (capture : List ℕ) (r : Reader) (d : ℤ) (old : List ℕ) (n : ℕ) 
         let checks = capture_checks capture r d (length old) in
         let e = sym given ∙ none in
         record { answers = sym (done checks (not_read_capture r d) _ e); leaves = sym (done checks (λ m. old) _ e) }
+
+-- what a call that is refused answers, and what it hands back
+pub refused_is :
+    (capture : List ℕ) (r : Reader) (d : ℤ) (old : List ℕ) (a : Result ℕ Refusal) (e : Refusal) → a ≡ Err e
+    → number_of e ≡ refusal_of (capture_checks capture r d (length old))
+    → (read_says a ≡ read_beside (capture_read capture r d (length old)))
+    × (r ≡ (capture_read capture r d (length old)).reader)
+    × (d ≡ (capture_read capture r d (length old)).disparity)
+    × (old ≡ events_left capture r d old)
+refused_is capture r d old a e is g =
+    let p = has_number e in
+    let x = read_refused capture r d old (number_of e) g (λ z. omega (arith, p, z)) in (
+      ap read_says is ∙ ap read_beside x.answers,
+      ap (λ (w : CaptureRead). w.reader) x.answers,
+      ap (λ (w : CaptureRead). w.disparity) x.answers,
+      x.leaves,
+    )

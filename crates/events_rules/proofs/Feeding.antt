@@ -17,10 +17,8 @@ use Rattle.character_rules.specs.Results.{packed, packed_disparity, unpacked}
 use Rattle.character_rules.proofs.Packed.{unpacked_data, unpacked_reading}
 use Rattle.character_rules.proofs.RunLaws.{disparity_is}
 use Rattle.crc.specs.Crc16.{crc_byte}
-use Rattle.packet_rules.specs.declared.DataPacket.{DataPacket}
-use Rattle.packet_rules.specs.declared.DataPacket.TheVariants.{NoData, InData}
-use Rattle.packet_rules.specs.declared.PriorityPacket.{PriorityPacket}
-use Rattle.packet_rules.specs.declared.PriorityPacket.TheVariants.{NoPriority, InPriority}
+use Rattle.packet_rules.specs.Open.{OpenData, OpenPriority, open_data, open_priority}
+use Rattle.std.specs.Prelude.{Some, None}
 use Rattle.packet_rules.specs.declared.Phase.{Phase}
 use Rattle.packet_rules.specs.declared.Phase.TheVariants.{Free}
 use Rattle.packet_rules.specs.declared.Reader.{Reader}
@@ -42,20 +40,20 @@ Feeds f m =
 
 -- a data packet that has begun
 abbrev pub in_data : ℕ → ℕ → ℕ → ℕ → Reader
-in_data s h k c = st s (InData h true c) NoPriority Free
+in_data s h k c = st s (open_data h true c) None Free
 
 pub data_feeds : (s h m : ℕ) → Feeds (in_data s h) m
-data_feeds s h m k c b e l ok = on_byte s (InData h true c) NoPriority e b refl refl ok
+data_feeds s h m k c b e l ok = on_byte s (open_data h true c) None e b refl refl ok
 
 -- a priority packet with room for m bytes
-abbrev pub in_priority : ℕ → DataPacket → ℕ → ℕ → ℕ → ℕ → Reader
-in_priority s d o n k c = st s d (InPriority o (n + k) c) Free
+abbrev pub in_priority : ℕ → OpenData → ℕ → ℕ → ℕ → ℕ → Reader
+in_priority s d o n k c = st s d (open_priority o (n + k) c) Free
 
-pub priority_feeds : (s : ℕ) (d : DataPacket) (o n m : ℕ) → n + m ≤ s → Feeds (in_priority s d o n) m
+pub priority_feeds : (s : ℕ) (d : OpenData) (o n m : ℕ) → n + m ≤ s → Feeds (in_priority s d o n) m
 priority_feeds s d o n m room k c b e l ok =
     let one : (n + k) + 1 ≡ n + (k + 1) = omega arith in
-    on_byte s d (InPriority o (n + k) c) e b refl (lt-leb s (n + k) (omega arith)) ok
-    ∙ ap (λ (j : ℕ). gives (gave_byte b) (st s d (InPriority o j (crc_byte c b)) Free)) one
+    on_byte s d (open_priority o (n + k) c) e b refl (lt-leb s (n + k) (omega arith)) ok
+    ∙ ap (λ (j : ℕ). gives (gave_byte b) (st s d (open_priority o j (crc_byte c b)) Free)) one
 
 -- ---- a run of bytes, from place i to place j, none past `until`: whatever the packet that takes them
 
@@ -104,61 +102,61 @@ module _ (cs : List ℕ) (until i : ℕ) (p : Bool) (c : ℕ) (old : List ℕ) (
 -- ---- the run in the packet that takes it
 
 -- the packets after k bytes, with that register: the priority packet's where one is open, and else the data packet's
-abbrev pub data_to : DataPacket → PriorityPacket → ℕ → DataPacket
-data_to d (InPriority o n x) c = d
-data_to (InData h begun x) NoPriority c = InData h begun c
-data_to NoData NoPriority c = NoData
+abbrev pub data_to : OpenData → OpenPriority → ℕ → OpenData
+data_to d (Some inner) c = d
+data_to (Some outer) None c = open_data outer.channel outer.begun c
+data_to None None c = None
 
-abbrev pub priority_to : PriorityPacket → ℕ → ℕ → PriorityPacket
-priority_to (InPriority o n x) k c = InPriority o (n + k) c
-priority_to NoPriority k c = NoPriority
+abbrev pub priority_to : OpenPriority → ℕ → ℕ → OpenPriority
+priority_to (Some inner) k c = open_priority inner.opening (inner.count + k) c
+priority_to None k c = None
 
-abbrev pub count_in : PriorityPacket → ℕ
-count_in (InPriority o n x) = n
-count_in NoPriority = 0
+abbrev pub count_in : OpenPriority → ℕ
+count_in (Some inner) = inner.count
+count_in None = 0
 
-abbrev pub fed_to : ℕ → DataPacket → PriorityPacket → Phase → ℕ → ℕ → Reader
+abbrev pub fed_to : ℕ → OpenData → OpenPriority → Phase → ℕ → ℕ → Reader
 fed_to s d p w k c = st s (data_to d p c) (priority_to p k c) w
 
 -- n bytes, at most so many, are taken in such a state, and counted
-pub record Takes (s : ℕ) (d : DataPacket) (p : PriorityPacket) (w : Phase) (most n : ℕ) : Type 0 where
+pub record Takes (s : ℕ) (d : OpenData) (p : OpenPriority) (w : Phase) (most n : ℕ) : Type 0 where
   pub within : n ≤ most
   pub counted : 0 < n → count_in p + n ≤ 65535
   pub feeds : Feeds (fed_to s d p w) n
 
-module _ (s : ℕ) (d : DataPacket) (p : PriorityPacket) (w : Phase) (most : ℕ) where
+module _ (s : ℕ) (d : OpenData) (p : OpenPriority) (w : Phase) (most : ℕ) where
   pub takes_none : Takes s d p w most 0
   takes_none = record { within = omega arith; counted = λ l. absurd (omega (arith, l)); feeds = λ k c b e l ok. absurd (omega (arith, l)) }
 
-  pub takes_data : (h : ℕ) (begun : Bool) (x : ℕ) → d ≡ InData h begun x → begun ≡ true → p ≡ NoPriority → w ≡ Free → most ≤ 65535 → Takes s d p w most most
+  pub takes_data : (h : ℕ) (begun : Bool) (x : ℕ) → d ≡ open_data h begun x → begun ≡ true → p ≡ None → w ≡ Free → most ≤ 65535 → Takes s d p w most most
   takes_data h begun x e t f g m =
-      subst (λ (y : DataPacket). Takes s y p w most most) (sym (e ∙ ap (λ (y : Bool). InData h y x) t))
-      (subst (λ (y : PriorityPacket). Takes s (InData h true x) y w most most) (sym f)
-      (subst (λ (y : Phase). Takes s (InData h true x) NoPriority y most most) (sym g)
+      subst (λ (y : OpenData). Takes s y p w most most) (sym (e ∙ ap (λ (y : Bool). open_data h y x) t))
+      (subst (λ (y : OpenPriority). Takes s (open_data h true x) y w most most) (sym f)
+      (subst (λ (y : Phase). Takes s (open_data h true x) None y most most) (sym g)
       record { within = omega arith; counted = λ l. omega arith; feeds = data_feeds s h most }))
 
-  pub takes_priority : (o k x n : ℕ) → p ≡ InPriority o k x → w ≡ Free → n ≤ most → k + n ≤ s → s ≤ 65535 → Takes s d p w most n
+  pub takes_priority : (o k x n : ℕ) → p ≡ open_priority o k x → w ≡ Free → n ≤ most → k + n ≤ s → s ≤ 65535 → Takes s d p w most n
   takes_priority o k x n f g l room m =
-      subst (λ (y : PriorityPacket). Takes s d y w most n) (sym f)
-      (subst (λ (y : Phase). Takes s d (InPriority o k x) y most n) (sym g)
+      subst (λ (y : OpenPriority). Takes s d y w most n) (sym f)
+      (subst (λ (y : Phase). Takes s d (open_priority o k x) y most n) (sym g)
       record { within = l; counted = λ z. omega arith; feeds = priority_feeds s d o k n room })
 
 -- before the first byte stands the state itself
-pub fed_start : (s : ℕ) (d : DataPacket) (p : PriorityPacket) (w : Phase) → fed_to s d p w 0 (register_in d p) ≡ st s d p w
-fed_start s d (InPriority o n x) w =
-    let none : n + 0 ≡ n = omega arith in
-    ap (λ (k : ℕ). st s d (InPriority o k x) w) none
-fed_start s (InData h begun x) NoPriority w = refl
-fed_start s NoData NoPriority w = refl
+pub fed_start : (s : ℕ) (d : OpenData) (p : OpenPriority) (w : Phase) → fed_to s d p w 0 (register_in d p) ≡ st s d p w
+fed_start s d (Some inner) w =
+    let none : inner.count + 0 ≡ inner.count = omega arith in
+    ap (λ (k : ℕ). st s d (open_priority inner.opening k inner.register) w) none
+fed_start s (Some outer) None w = refl
+fed_start s None None w = refl
 
-module _ (cs : List ℕ) (i m : ℕ) (p : Bool) (old : List ℕ) (j : ℕ) (q : Bool) (x : ℕ) (new : List ℕ) (s : ℕ) (d : DataPacket) (t : PriorityPacket) (w : Phase)
+module _ (cs : List ℕ) (i m : ℕ) (p : Bool) (old : List ℕ) (j : ℕ) (q : Bool) (x : ℕ) (new : List ℕ) (s : ℕ) (d : OpenData) (t : OpenPriority) (w : Phase)
     (c : ℕ) (register : c ≡ register_in d t) (fed : Fed cs (i + m) i p c old j q x new) where
   pub fed_ran : Feeds (fed_to s d t w) m → well_formed (st s d t w) ≡ true
-      → (e : DataPacket) (u : PriorityPacket) → e ≡ data_to d t x → u ≡ priority_to t (j - i) x → Ran cs i p (st s d t w) old j q (st s e u w) new
+      → (e : OpenData) (u : OpenPriority) → e ≡ data_to d t x → u ≡ priority_to t (j - i) x → Ran cs i p (st s d t w) old j q (st s e u w) new
   fed_ran feeds ok e u de ue =
       let all : m ≡ (i + m) - i = omega arith in
       let start : fed_to s d t w 0 c ≡ st s d t w = ap (fed_to s d t w 0) register ∙ fed_start s d t w in
-      let after : fed_to s d t w (j - i) x ≡ st s e u w = ap₂ (λ (a : DataPacket) (b : PriorityPacket). st s a b w) (sym de) (sym ue) in
+      let after : fed_to s d t w (j - i) x ≡ st s e u w = ap₂ (λ (a : OpenData) (b : OpenPriority). st s a b w) (sym de) (sym ue) in
       subst (λ (r : Reader). Ran cs i p (st s d t w) old j q r new) after
       (subst (λ (r : Reader). Ran cs i p r old j q (fed_to s d t w (j - i) x) new) start
       (fed.runs (fed_to s d t w) (subst (λ (k : ℕ). Feeds (fed_to s d t w) k) all feeds) (ap well_formed start ∙ ok)))

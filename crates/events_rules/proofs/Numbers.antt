@@ -6,24 +6,35 @@ use mathlib.Core.Bool.{Bool, true, false, cond}
 use native.Mathlib.Omega.{arith}
 use lib.Dec.{eqb}
 use Rattle.packet_rules.specs.declared.Event.{Event}
-use Rattle.packet_rules.specs.declared.Event.TheVariants.{Nothing, StartData, StartPriority, Byte, End, Lmp, Violation}
+use Rattle.packet_rules.specs.declared.Event.TheVariants.{Nothing, StartData, StartPriority, Byte, End, Lmp, Violation as Violates}
+use Rattle.packet_rules.specs.declared.Violation.{Violation}
+use Rattle.packet_rules.specs.declared.Violation.TheVariants.{Invalid, WrongDisparity, Unsupported, OutOfPlace, Channel, Crc, LmpCheck, NoByte, Outside, TooLong}
 use Rattle.packet_rules.specs.Answers.{event_says}
 use Rattle.events_rules.specs.Numbers.{packed_event}
 
--- an event, not a refusal, whose numbers are bytes
+-- an event whose numbers are bytes
 pub data Told : Event → Type 0 where
   nothing : Told Nothing
-  violation : (n : ℕ) → n < 256 → Told (Violation n)
+  violation : (v : Violation) → Told (Violates v)
   start_data : (channel : ℕ) → channel < 256 → Told (StartData channel)
   start_priority : (channel segment : ℕ) → channel < 256 → segment < 256 → Told (StartPriority channel segment)
   byte : (b : ℕ) → b < 256 → Told (Byte b)
   end : (bad : Bool) → Told (End bad)
   lmp : (nack : Bool) (number : ℕ) → number < 256 → Told (Lmp nack number)
 
+-- the violation of a number: the last for every other
+abbrev violation_of : ℕ → Violation
+violation_of n =
+    cond (eqb n 1) Invalid
+    (cond (eqb n 2) WrongDisparity
+    (cond (eqb n 3) Unsupported
+    (cond (eqb n 4) OutOfPlace
+    (cond (eqb n 5) Channel (cond (eqb n 6) Crc (cond (eqb n 7) LmpCheck (cond (eqb n 8) NoByte (cond (eqb n 9) Outside TooLong))))))))
+
 -- the event of a number, a segment number and a value
 abbrev event_of : ℕ → ℕ → ℕ → Event
 event_of event segment value =
-    cond (eqb event 1) (Violation value)
+    cond (eqb event 1) (Violates (violation_of value))
     (cond (eqb event 2) (StartData value)
     (cond (eqb event 3) (StartPriority value segment)
     (cond (eqb event 4) (Byte value)
@@ -43,7 +54,16 @@ apart event segment value g h =
 pub event_back : (e : Event) → Told e → unpacked_event (packed_event (event_says e)) ≡ e
 unfolding packed_event
 event_back e nothing = refl
-event_back e (violation n h) = apart 1 0 n (omega arith) h
+event_back e (violation Invalid) = refl
+event_back e (violation WrongDisparity) = refl
+event_back e (violation Unsupported) = refl
+event_back e (violation OutOfPlace) = refl
+event_back e (violation Channel) = refl
+event_back e (violation Crc) = refl
+event_back e (violation LmpCheck) = refl
+event_back e (violation NoByte) = refl
+event_back e (violation Outside) = refl
+event_back e (violation TooLong) = refl
 event_back e (start_data c h) = apart 2 0 c (omega arith) h
 event_back e (start_priority c s h g) = apart 3 s c g h
 event_back e (byte b h) = apart 4 0 b (omega arith) h

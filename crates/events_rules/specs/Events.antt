@@ -8,7 +8,7 @@ use Rattle.capture_rules.specs.Calls.{readable}
 use Rattle.packet_rules.specs.declared.Reader.{Reader}
 use Rattle.packet_rules.specs.State.{well_formed}
 use Rattle.packet_rules.specs.Line.{said_of, after_of}
-use Rattle.events_rules.specs.declared.CaptureRead.{CaptureRead}
+use Rattle.events_rules.specs.Answers.{CaptureRead}
 use Rattle.events_rules.specs.Numbers.{packed_event}
 
 -- what a reader says of characters, an event for each, and its state after them

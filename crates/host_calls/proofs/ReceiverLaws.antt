@@ -4,8 +4,7 @@ use Prim.Native.Nat.{ℕ}
 use mathlib.Core.Path.{◌≡◌, sym, ap, ◌∙◌}
 use mathlib.Core.List.{List}
 use lib.ListN.{length}
-use Rattle.retry_rules.specs.declared.Arrived.{Arrived}
-use Rattle.retry_rules.specs.declared.Begun.{Begun}
+use Rattle.retry_rules.specs.Answers.{Arrived, Begun}
 use Rattle.retry_rules.specs.Fresh.{fresh_receiver_of}
 use Rattle.retry_rules.specs.Arrival.{arrival_of, arrival_output, damaged_arrival_of}
 use Rattle.retry_rules.proofs.Refusals.{arrival_leaves}

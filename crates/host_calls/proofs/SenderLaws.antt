@@ -4,10 +4,7 @@ use Prim.Native.Nat.{ℕ}
 use mathlib.Core.Path.{◌≡◌, sym, ap, ◌∙◌}
 use mathlib.Core.List.{List}
 use lib.ListN.{length}
-use Rattle.retry_rules.specs.declared.Answered.{Answered}
-use Rattle.retry_rules.specs.declared.Offered.{Offered}
-use Rattle.retry_rules.specs.declared.Sent.{Sent}
-use Rattle.retry_rules.specs.declared.Ticked.{Ticked}
+use Rattle.retry_rules.specs.Answers.{Answered, Offered, Sent, Ticked}
 use Rattle.retry_rules.specs.Fresh.{fresh_sender_of, reset_of}
 use Rattle.retry_rules.specs.Offer.{offer_of, offer_buffers}
 use Rattle.retry_rules.specs.Send.{send_of, send_output}

@@ -2,7 +2,7 @@
 use Rattle.std.specs.Prelude.{ℕ, not, List, [], ◌∷◌, ℤ, length}
 use Rattle.refusal.specs.Order.{Check, check, outcome, left}
 use Rattle.capture_rules.specs.Calls.{readable}
-use Rattle.events_rules.specs.declared.CaptureRead.{CaptureRead}
+use Rattle.events_rules.specs.Answers.{CaptureRead}
 use Rattle.events_rules.specs.Events.{not_read_capture, capture_read, events_left}
 use Rattle.host_rules.specs.Numbers.{Called, called}
 use Rattle.host_rules.specs.ReaderBytes.{reader_bytes, reader_in, is_reader}

@@ -1,3 +1,3 @@
 pub mod Told
-pub mod ReaderSame
+pub mod Stepped
 pub mod SenderSame

@@ -6,7 +6,7 @@ use mathlib.Core.List.{List, [], ◌∷◌}
 use lib.Dec.{eqb}
 use native.Mathlib.Omega.{arith}
 use Rattle.host_rules.specs.Numbers.{mark_number}
-use Rattle.host_retry_rules.specs.SenderBytes.{two, mask_of, marks_of, sender_bytes, counters_in, lengths_in, channels_in, sender_in}
+use Rattle.host_retry_rules.specs.SenderBytes.{two, mask_of, marks_of, sender_bytes, counters_in, slot_from, sender_in}
 use Rattle.host_retry_rules.specs.ReceiverBytes.{receiver_bytes, receiver_in}
 
 also : {x y : ℕ} {xs ys : List ℕ} → x ≡ y → xs ≡ ys → x ∷ xs ≡ y ∷ ys
@@ -53,7 +53,7 @@ module _
       ∷ b19 ∷ b20 ∷ b21 ∷ b22 ∷ b23 ∷ b24 ∷ b25 ∷ b26 ∷ b27 ∷ b28 ∷ b29 ∷ b30 ∷ b31 ∷ b32 ∷ b33 ∷ b34 ∷ b35 ∷ b36 ∷ b37 ∷ [])) ≡ b0 ∷ b1 ∷ b2 ∷ b3
       ∷ b4 ∷ b5 ∷ b6 ∷ b7 ∷ b8 ∷ b9 ∷ b10 ∷ b11 ∷ b12 ∷ b13 ∷ b14 ∷ b15 ∷ b16 ∷ b17 ∷ b18 ∷ b19 ∷ b20 ∷ b21 ∷ b22 ∷ b23 ∷ b24 ∷ b25 ∷ b26 ∷ b27 ∷ b28
       ∷ b29 ∷ b30 ∷ b31 ∷ b32 ∷ b33 ∷ b34 ∷ b35 ∷ b36 ∷ b37 ∷ []
-  unfolding sender_bytes sender_in counters_in lengths_in channels_in
+  unfolding sender_bytes sender_in counters_in slot_from mask_of marks_of
   sender_same =
       also refl (also refl (also refl (also refl (also refl (also (high b5 b6 s6) (also (low b5 b6 s6) (also refl (also (high b8 b9 s9) (also
       (low b8 b9 s9) (also (high b10 b11 s11) (also (low b10 b11 s11) (also refl (also (high b13 b14 s14) (also (low b13 b14 s14) (also

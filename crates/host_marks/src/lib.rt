@@ -4,9 +4,9 @@
 ghost use Rattle.std.specs.Prelude.{◌≡◌};
 ghost use Rattle.host_rules.specs.Numbers.{mark_number};
 
-// 0 or 1.
+// 0 or 1. It is `u32::from`, under a name on which this crate's wrong answers are tried.
 pub fn mark_number(mark: bool) -> u32
     ensures { result ≡ mark_number mark }
 {
-    if mark { 1 } else { 0 }
+    u32::from(mark)
 }

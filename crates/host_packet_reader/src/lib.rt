@@ -4,20 +4,17 @@
 ghost use Rattle.std.specs.Prelude.{◌≡◌};
 ghost use Rattle.host_calls.specs.PacketCalls.{begins, Steps, steps};
 
-use packet_rules::FreshReader;
-
 // A reader before any character, for segments of S bytes.
 #[unsafe(no_mangle)]
 pub extern "C" fn buzz_reader_fresh(size: u32, reader: &mut [u8; 15]) -> u32
     ensures { let after = begins size reader.old in (result ≡ after.refusal) × (reader.new ≡ after.lent) }
 {
-    let answer = packet_reader::fresh(size);
-    match answer {
-        FreshReader::Ready(r) => {
-            *reader = host_reader_bytes::reader_bytes(r);
+    match packet_reader::fresh(size) {
+        Ok(fresh) => {
+            *reader = host_reader_bytes::reader_bytes(fresh);
             0
         }
-        FreshReader::Refused(n) => n as u32,
+        Err(refusal) => u32::from(refusal),
     }
 }
 
@@ -42,16 +39,14 @@ pub extern "C" fn buzz_reader_step(
         (result ≡ after.refusal) × (reader.new ≡ after.lent.reader) × (event.new ≡ after.lent.event)
         × (value.new ≡ after.lent.value) × (number.new ≡ after.lent.number)) }
 {
-    let step = host_steps::step(*reader, violation, byte, control);
-    let said = step.event;
-    let told = host_steps::told(said);
-    if told.refusal != 0 {
-        return told.refusal;
+    let said = host_steps::step(reader, violation, byte, control);
+    match host_steps::told(said) {
+        Ok(told) => {
+            *event = told.event;
+            *value = told.value;
+            *number = told.number;
+            0
+        }
+        Err(refusal) => u32::from(refusal),
     }
-    let next = step.reader;
-    *reader = host_reader_bytes::reader_bytes(next);
-    *event = told.event;
-    *value = told.value;
-    *number = told.number;
-    0
 }

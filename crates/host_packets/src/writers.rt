@@ -1,10 +1,29 @@
 // The packet writer: one whole data packet, priority packet or retry LMP a call, as characters in the front of a lent run.
 ghost use Rattle.std.specs.Prelude.{◌≡◌};
-ghost use Rattle.packet_rules.specs.Packets.{in_data, in_priority, retry};
-ghost use Rattle.host_rules.specs.Numbers.{mark_of};
+ghost use Rattle.refusal.specs.Order.{refusal_says};
+ghost use Rattle.packet_rules.specs.Packets.{in_data, in_priority, retry, written_says};
+ghost use Rattle.host_rules.specs.Numbers.{mark_of, or_old};
 ghost use Rattle.host_calls.specs.PacketCalls.{WritesPacket, writes_packet};
 
 use packet_rules::Written;
+use refusal::Refusal;
+
+// The disparity, the characters and their count stand one by one in the three calls, and not in a struct: so C passes them.
+
+// What C is told of a packet: the closing disparity and how many characters there are, or the refusal's number.
+fn told(written: Result<Written, Refusal>, disparity: &mut i32, count: &mut usize) -> u32
+    ensures { (result ≡ refusal_says written) × (disparity.new ≡ or_old (written_says written).disparity disparity.old)
+        × (count.new ≡ or_old (written_says written).count count.old) }
+{
+    match written {
+        Ok(packet) => {
+            *disparity = packet.disparity;
+            *count = packet.count;
+            0
+        }
+        Err(refusal) => u32::from(refusal),
+    }
+}
 
 // A data packet; the disparity is turned to the closing one.
 #[unsafe(no_mangle)]
@@ -21,18 +40,8 @@ pub extern "C" fn buzz_write_data(
         (result ≡ after.refusal) × (disparity.new ≡ after.lent.disparity) × (characters.new ≡ after.lent.characters)
         × (count.new ≡ after.lent.count)) }
 {
-    let answer = packet_writer::write_data(channel, bytes, bad != 0, *disparity, characters);
-    match answer {
-        Written::Done {
-            count: n,
-            disparity: d,
-        } => {
-            *disparity = d;
-            *count = n;
-            0
-        }
-        Written::Refused(n) => n as u32,
-    }
+    let written = packet_writer::write_data(channel, bytes, bad != 0, *disparity, characters);
+    told(written, disparity, count)
 }
 
 // A priority packet of a segment of at most S bytes; the disparity is turned to the closing one.
@@ -52,7 +61,7 @@ pub extern "C" fn buzz_write_priority(
         (result ≡ after.refusal) × (disparity.new ≡ after.lent.disparity) × (characters.new ≡ after.lent.characters)
         × (count.new ≡ after.lent.count)) }
 {
-    let answer = packet_writer::write_priority(
+    let written = packet_writer::write_priority(
         size,
         channel,
         segment,
@@ -61,17 +70,7 @@ pub extern "C" fn buzz_write_priority(
         *disparity,
         characters,
     );
-    match answer {
-        Written::Done {
-            count: n,
-            disparity: d,
-        } => {
-            *disparity = d;
-            *count = n;
-            0
-        }
-        Written::Refused(n) => n as u32,
-    }
+    told(written, disparity, count)
 }
 
 // A retry LMP; the disparity is turned to the closing one.
@@ -88,16 +87,6 @@ pub extern "C" fn buzz_write_lmp(
         (result ≡ after.refusal) × (disparity.new ≡ after.lent.disparity) × (characters.new ≡ after.lent.characters)
         × (count.new ≡ after.lent.count)) }
 {
-    let answer = packet_writer::write_lmp(nack != 0, number, *disparity, characters);
-    match answer {
-        Written::Done {
-            count: n,
-            disparity: d,
-        } => {
-            *disparity = d;
-            *count = n;
-            0
-        }
-        Written::Refused(n) => n as u32,
-    }
+    let written = packet_writer::write_lmp(nack != 0, number, *disparity, characters);
+    told(written, disparity, count)
 }

@@ -2,47 +2,43 @@
 #![tactic(auto)]
 
 ghost use Rattle.std.specs.Prelude.{◌≡◌};
-ghost use Rattle.host_rules.specs.ReaderBytes.{two, packet_of, priority_of, phase_of, reader_in};
+ghost use Rattle.host_rules.specs.ReaderBytes.{packet_of, priority_of, phase_of, reader_in};
 
 use packet_rules::{DataPacket, Due, Phase, PriorityPacket, Reader};
 
-fn two(high: u8, low: u8) -> u16
-    ensures { result ≡ two high low }
-{
-    high as u16 * 256 + low as u16
-}
+// The tags are numbers since C keeps them as bytes; a From for these types could stand only in packet_rules, which knows no bytes.
 
-fn packet_of(tag: u8, channel: u8, register: u16) -> DataPacket
+#[tactic(auto, unfolding(host_rules::specs::ReaderBytes::packet_of))]
+fn packet_of(tag: u8, channel: u8, register: u16) -> Option<DataPacket>
     ensures { result ≡ packet_of tag channel register }
 {
-    match tag {
-        1 => DataPacket::InData {
-            channel,
-            begun: false,
-            register,
-        },
-        2 => DataPacket::InData {
-            channel,
-            begun: true,
-            register,
-        },
-        _ => DataPacket::NoData,
-    }
+    let begun = match tag {
+        1 => false,
+        2 => true,
+        _ => return None,
+    };
+    Some(DataPacket {
+        channel,
+        begun,
+        register,
+    })
 }
 
-fn priority_of(tag: u8, opening: u8, count: u16, register: u16) -> PriorityPacket
+#[tactic(auto, unfolding(host_rules::specs::ReaderBytes::priority_of))]
+fn priority_of(tag: u8, opening: u8, count: u16, register: u16) -> Option<PriorityPacket>
     ensures { result ≡ priority_of tag opening count register }
 {
-    match tag {
-        1 => PriorityPacket::InPriority {
-            opening,
-            count,
-            register,
-        },
-        _ => PriorityPacket::NoPriority,
+    if tag != 1 {
+        return None;
     }
+    Some(PriorityPacket {
+        opening,
+        count,
+        register,
+    })
 }
 
+#[tactic(auto, unfolding(host_rules::specs::ReaderBytes::phase_of))]
 fn phase_of(tag: u8, a: u8, b: u8) -> Phase
     ensures { result ≡ phase_of tag a b }
 {
@@ -63,17 +59,19 @@ fn phase_of(tag: u8, a: u8, b: u8) -> Phase
 }
 
 // The state that bytes stand for.
+#[tactic(auto, unfolding(host_rules::specs::ReaderBytes::reader_in))]
 pub fn reader_in(b: [u8; 15]) -> Reader
     ensures { result ≡ reader_in b }
 {
-    let size = two(b[0], b[1]);
-    let packet = packet_of(b[2], b[3], two(b[4], b[5]));
-    let priority = priority_of(b[6], b[7], two(b[8], b[9]), two(b[10], b[11]));
-    let phase = phase_of(b[12], b[13], b[14]);
     Reader {
-        size,
-        packet,
-        priority,
-        phase,
+        size: u16::from_be_bytes([b[0], b[1]]),
+        packet: packet_of(b[2], b[3], u16::from_be_bytes([b[4], b[5]])),
+        priority: priority_of(
+            b[6],
+            b[7],
+            u16::from_be_bytes([b[8], b[9]]),
+            u16::from_be_bytes([b[10], b[11]]),
+        ),
+        phase: phase_of(b[12], b[13], b[14]),
     }
 }

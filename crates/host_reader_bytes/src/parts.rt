@@ -1,154 +1,58 @@
-// The tags and bytes of each part of a state.
-ghost use Rattle.std.specs.Prelude.{◌≡◌};
-ghost use Rattle.host_rules.specs.Numbers.{mark_number};
+// The bytes of each part of a state: its tag, and what goes with it.
+ghost use Rattle.std.specs.Prelude.{◌≡◌, [], ◌∷◌, ◌/◌, ◌%◌};
 ghost use Rattle.host_rules.specs.ReaderBytes.{packet_tag, packet_channel, packet_register, priority_tag, priority_opening, priority_count, priority_register};
 ghost use Rattle.host_rules.specs.ReaderBytes.{due_tag, due_first, due_second, phase_tag, phase_first, phase_second};
 
 use packet_rules::{DataPacket, Due, Phase, PriorityPacket};
 
-pub fn mark_number(mark: bool) -> u8
-    ensures { result ≡ mark_number mark }
-{
-    if mark { 1 } else { 0 }
-}
-
-pub fn packet_tag(p: DataPacket) -> u8
-    ensures { result ≡ packet_tag p }
+pub fn packet_part(p: Option<DataPacket>) -> [u8; 4]
+    ensures { result ≡ packet_tag p ∷ packet_channel p ∷ packet_register p / 256 ∷ packet_register p % 256 ∷ [] }
 {
     match p {
-        DataPacket::NoData => 0,
-        DataPacket::InData { begun, .. } => { if begun { 2 } else { 1 } }
+        None => [0; 4],
+        Some(packet) => {
+            let [high, low] = packet.register.to_be_bytes();
+            [1 + u8::from(packet.begun), packet.channel, high, low]
+        }
     }
 }
 
-pub fn packet_channel(p: DataPacket) -> u8
-    ensures { result ≡ packet_channel p }
+pub fn priority_part(p: Option<PriorityPacket>) -> [u8; 6]
+    ensures { result ≡ priority_tag p ∷ priority_opening p ∷ priority_count p / 256 ∷ priority_count p % 256
+        ∷ priority_register p / 256 ∷ priority_register p % 256 ∷ [] }
 {
     match p {
-        DataPacket::NoData => 0,
-        DataPacket::InData { channel, .. } => channel,
+        None => [0; 6],
+        Some(packet) => {
+            let [more, fewer] = packet.count.to_be_bytes();
+            let [high, low] = packet.register.to_be_bytes();
+            [1, packet.opening, more, fewer, high, low]
+        }
     }
 }
 
-pub fn packet_register(p: DataPacket) -> u16
-    ensures { result ≡ packet_register p }
-{
-    match p {
-        DataPacket::NoData => 0,
-        DataPacket::InData { register, .. } => register,
-    }
-}
-
-pub fn priority_tag(p: PriorityPacket) -> u8
-    ensures { result ≡ priority_tag p }
-{
-    match p {
-        PriorityPacket::NoPriority => 0,
-        PriorityPacket::InPriority { .. } => 1,
-    }
-}
-
-pub fn priority_opening(p: PriorityPacket) -> u8
-    ensures { result ≡ priority_opening p }
-{
-    match p {
-        PriorityPacket::NoPriority => 0,
-        PriorityPacket::InPriority { opening, .. } => opening,
-    }
-}
-
-pub fn priority_count(p: PriorityPacket) -> u16
-    ensures { result ≡ priority_count p }
-{
-    match p {
-        PriorityPacket::NoPriority => 0,
-        PriorityPacket::InPriority { count, .. } => count,
-    }
-}
-
-pub fn priority_register(p: PriorityPacket) -> u16
-    ensures { result ≡ priority_register p }
-{
-    match p {
-        PriorityPacket::NoPriority => 0,
-        PriorityPacket::InPriority { register, .. } => register,
-    }
-}
-
-fn due_tag(due: Due) -> u8
-    ensures { result ≡ due_tag due }
+fn due_part(due: Due) -> [u8; 3]
+    ensures { result ≡ due_tag due ∷ due_first due ∷ due_second due ∷ [] }
 {
     match due {
-        Due::Channel => 3,
-        Due::Opening => 4,
-        Due::Closing(_) => 5,
-        Due::FirstCrc(_) => 6,
-        Due::SecondCrc(_, _) => 7,
-        Due::LmpType => 8,
-        Due::LmpNumber(_) => 9,
-        Due::LmpCheck(_, _) => 10,
+        Due::Channel => [3, 0, 0],
+        Due::Opening => [4, 0, 0],
+        Due::Closing(bad) => [5, u8::from(bad), 0],
+        Due::FirstCrc(bad) => [6, u8::from(bad), 0],
+        Due::SecondCrc(bad, first) => [7, u8::from(bad), first],
+        Due::LmpType => [8, 0, 0],
+        Due::LmpNumber(t) => [9, t, 0],
+        Due::LmpCheck(t, n) => [10, t, n],
     }
 }
 
-fn due_first(due: Due) -> u8
-    ensures { result ≡ due_first due }
-{
-    match due {
-        Due::Channel => 0,
-        Due::Opening => 0,
-        Due::Closing(bad) => mark_number(bad),
-        Due::FirstCrc(bad) => mark_number(bad),
-        Due::SecondCrc(bad, _) => mark_number(bad),
-        Due::LmpType => 0,
-        Due::LmpNumber(t) => t,
-        Due::LmpCheck(t, _) => t,
-    }
-}
-
-fn due_second(due: Due) -> u8
-    ensures { result ≡ due_second due }
-{
-    match due {
-        Due::Channel => 0,
-        Due::Opening => 0,
-        Due::Closing(_) => 0,
-        Due::FirstCrc(_) => 0,
-        Due::SecondCrc(_, a) => a,
-        Due::LmpType => 0,
-        Due::LmpNumber(_) => 0,
-        Due::LmpCheck(_, n) => n,
-    }
-}
-
-pub fn phase_tag(p: Phase) -> u8
-    ensures { result ≡ phase_tag p }
+pub fn phase_part(p: Phase) -> [u8; 3]
+    ensures { result ≡ phase_tag p ∷ phase_first p ∷ phase_second p ∷ [] }
 {
     match p {
-        Phase::Free => 0,
-        Phase::Next(due) => due_tag(due),
-        Phase::Idles(_) => 2,
-        Phase::Dropping => 1,
-    }
-}
-
-pub fn phase_first(p: Phase) -> u8
-    ensures { result ≡ phase_first p }
-{
-    match p {
-        Phase::Free => 0,
-        Phase::Next(due) => due_first(due),
-        Phase::Idles(n) => n,
-        Phase::Dropping => 0,
-    }
-}
-
-pub fn phase_second(p: Phase) -> u8
-    ensures { result ≡ phase_second p }
-{
-    match p {
-        Phase::Free => 0,
-        Phase::Next(due) => due_second(due),
-        Phase::Idles(_) => 0,
-        Phase::Dropping => 0,
+        Phase::Free => [0, 0, 0],
+        Phase::Next(due) => due_part(due),
+        Phase::Idles(n) => [2, n, 0],
+        Phase::Dropping => [1, 0, 0],
     }
 }

@@ -4,23 +4,25 @@
 ghost use Rattle.std.specs.Prelude.{◌≡◌};
 ghost use Rattle.host_calls.specs.ReceiverCalls.{begins_receiver, ArrivesDamaged, arrives_damaged};
 
-use host_marks::mark_number;
+use host_receiver_bytes::{receiver_bytes, receiver_in, reply_numbers};
 
 // A fresh receiver with S.
+#[tactic(auto, using(host_retry_rules::proofs::Called::done_refusal, host_retry_rules::proofs::Called::done_lent), unfolding(host_calls::specs::ReceiverCalls::begins_receiver))]
 #[unsafe(no_mangle)]
 pub extern "C" fn buzz_receiver_fresh(size: u32, receiver: &mut [u8; 4]) -> u32
     ensures { let after = begins_receiver size receiver.old in (result ≡ after.refusal) × (receiver.new ≡ after.lent) }
 {
-    let made = retry_receiver::fresh_receiver(size);
-    if made.refusal != 0 {
-        return made.refusal as u32;
+    match retry_receiver::fresh_receiver(size) {
+        Ok(made) => {
+            *receiver = receiver_bytes(made);
+            0
+        }
+        Err(refusal) => u32::from(refusal),
     }
-    let next = made.receiver;
-    *receiver = host_receiver_bytes::receiver_bytes(next);
-    0
 }
 
 // A damaged segment arrives: the reply.
+#[tactic(auto, using(host_retry_rules::proofs::Called::done_refusal, host_retry_rules::proofs::Called::done_lent), unfolding(host_calls::specs::ReceiverCalls::arrives_damaged))]
 #[unsafe(no_mangle)]
 pub extern "C" fn buzz_receiver_damaged_arrival(
     receiver: &mut [u8; 4],
@@ -31,14 +33,15 @@ pub extern "C" fn buzz_receiver_damaged_arrival(
         let after = arrives_damaged old in
         (result ≡ after.refusal) × (receiver.new ≡ after.lent.receiver) × (nack.new ≡ after.lent.nack) × (reply.new ≡ after.lent.reply)) }
 {
-    let given = host_receiver_bytes::receiver_in(*receiver);
-    let dropped = retry_receiver::damaged_arrival(given);
-    if dropped.refusal != 0 {
-        return dropped.refusal as u32;
+    let state = receiver_in(*receiver);
+    match retry_receiver::damaged_arrival(&state) {
+        Ok(answer) => {
+            let [mark, number] = reply_numbers(answer);
+            *receiver = receiver_bytes(state);
+            *nack = mark;
+            *reply = number;
+            0
+        }
+        Err(refusal) => u32::from(refusal),
     }
-    let next = dropped.receiver;
-    *receiver = host_receiver_bytes::receiver_bytes(next);
-    *nack = mark_number(dropped.nack);
-    *reply = dropped.number as u32;
-    0
 }

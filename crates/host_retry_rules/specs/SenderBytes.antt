@@ -5,6 +5,8 @@
 use Rattle.std.specs.Prelude.{ℕ, zero, suc, ◌+◌, ◌*◌, ◌/◌, ◌%◌, Bool, false, List, [], ◌∷◌, eqb, get_or}
 use Rattle.retry_rules.specs.declared.Counters.{Counters}
 use Rattle.retry_rules.specs.declared.Sender.{Sender}
+use Rattle.retry_rules.specs.declared.Slot.{Slot}
+use Rattle.retry_rules.specs.States.{slot_in}
 use Rattle.host_rules.specs.Numbers.{mark_number}
 
 abbrev pub two : ℕ → ℕ → ℕ
@@ -22,9 +24,12 @@ abbrev pub marks_from : ℕ → ℕ → List Bool
 marks_from zero n = []
 marks_from (suc k) n = eqb (n % 2) 1 ∷ marks_from k (n / 2)
 
--- the eight elements of a list of eight
+-- the eight values of a function below eight, and so the eight elements of a list of eight
+abbrev pub eight : {A : Type 0} → (ℕ → A) → List A
+eight f = f 0 ∷ f 1 ∷ f 2 ∷ f 3 ∷ f 4 ∷ f 5 ∷ f 6 ∷ f 7 ∷ []
+
 abbrev pub first_eight : {A : Type 0} → A → List A → List A
-first_eight d l = get_or l 0 d ∷ get_or l 1 d ∷ get_or l 2 d ∷ get_or l 3 d ∷ get_or l 4 d ∷ get_or l 5 d ∷ get_or l 6 d ∷ get_or l 7 d ∷ []
+first_eight d l = eight (λ i. get_or l i d)
 
 unfoldable pub mask_of : List Bool → ℕ
 mask_of marks = marks_number (first_eight false marks)
@@ -32,22 +37,28 @@ mask_of marks = marks_number (first_eight false marks)
 unfoldable pub marks_of : ℕ → List Bool
 marks_of mask = marks_from 8 mask
 
+-- the length of what a buffer holds, its channel, and the eight marks
+abbrev pub length_of : Sender → ℕ → ℕ
+length_of s i = (slot_in s i).length
+
+abbrev pub channel_of : Sender → ℕ → ℕ
+channel_of s i = (slot_in s i).channel
+
+abbrev pub marks_in : Sender → List Bool
+marks_in s = eight (λ i. (slot_in s i).bad)
+
 unfoldable pub sender_bytes : Sender → List ℕ
 sender_bytes s =
     s.counters.oldest ∷ s.counters.stored ∷ s.counters.outstanding ∷ s.counters.point ∷ s.counters.released
     ∷ s.counters.timer / 256 ∷ s.counters.timer % 256 ∷ s.counters.expiries
     ∷ s.counters.columns / 256 ∷ s.counters.columns % 256 ∷ s.counters.size / 256 ∷ s.counters.size % 256 ∷ s.counters.link
-    ∷ get_or s.slots.lengths 0 0 / 256 ∷ get_or s.slots.lengths 0 0 % 256
-    ∷ get_or s.slots.lengths 1 0 / 256 ∷ get_or s.slots.lengths 1 0 % 256
-    ∷ get_or s.slots.lengths 2 0 / 256 ∷ get_or s.slots.lengths 2 0 % 256
-    ∷ get_or s.slots.lengths 3 0 / 256 ∷ get_or s.slots.lengths 3 0 % 256
-    ∷ get_or s.slots.lengths 4 0 / 256 ∷ get_or s.slots.lengths 4 0 % 256
-    ∷ get_or s.slots.lengths 5 0 / 256 ∷ get_or s.slots.lengths 5 0 % 256
-    ∷ get_or s.slots.lengths 6 0 / 256 ∷ get_or s.slots.lengths 6 0 % 256
-    ∷ get_or s.slots.lengths 7 0 / 256 ∷ get_or s.slots.lengths 7 0 % 256
-    ∷ get_or s.slots.channels 0 0 ∷ get_or s.slots.channels 1 0 ∷ get_or s.slots.channels 2 0 ∷ get_or s.slots.channels 3 0
-    ∷ get_or s.slots.channels 4 0 ∷ get_or s.slots.channels 5 0 ∷ get_or s.slots.channels 6 0 ∷ get_or s.slots.channels 7 0
-    ∷ mask_of s.slots.bad ∷ []
+    ∷ length_of s 0 / 256 ∷ length_of s 0 % 256 ∷ length_of s 1 / 256 ∷ length_of s 1 % 256
+    ∷ length_of s 2 / 256 ∷ length_of s 2 % 256 ∷ length_of s 3 / 256 ∷ length_of s 3 % 256
+    ∷ length_of s 4 / 256 ∷ length_of s 4 % 256 ∷ length_of s 5 / 256 ∷ length_of s 5 % 256
+    ∷ length_of s 6 / 256 ∷ length_of s 6 % 256 ∷ length_of s 7 / 256 ∷ length_of s 7 % 256
+    ∷ channel_of s 0 ∷ channel_of s 1 ∷ channel_of s 2 ∷ channel_of s 3
+    ∷ channel_of s 4 ∷ channel_of s 5 ∷ channel_of s 6 ∷ channel_of s 7
+    ∷ mask_of (marks_in s) ∷ []
 
 unfoldable pub counters_in : List ℕ → Counters
 counters_in b =
@@ -64,14 +75,14 @@ counters_in b =
       link = at b 12;
     }
 
-unfoldable pub lengths_in : List ℕ → List ℕ
-lengths_in b =
-    two (at b 13) (at b 14) ∷ two (at b 15) (at b 16) ∷ two (at b 17) (at b 18) ∷ two (at b 19) (at b 20)
-    ∷ two (at b 21) (at b 22) ∷ two (at b 23) (at b 24) ∷ two (at b 25) (at b 26) ∷ two (at b 27) (at b 28) ∷ []
-
-unfoldable pub channels_in : List ℕ → List ℕ
-channels_in b = at b 29 ∷ at b 30 ∷ at b 31 ∷ at b 32 ∷ at b 33 ∷ at b 34 ∷ at b 35 ∷ at b 36 ∷ []
+-- what buffer i holds beside its bytes
+unfoldable pub slot_from : List ℕ → ℕ → Slot
+slot_from b i =
+    record {
+      length = two (at b (13 + 2 * i)) (at b (14 + 2 * i));
+      channel = at b (29 + i);
+      bad = get_or (marks_of (at b 37)) i false;
+    }
 
 unfoldable pub sender_in : List ℕ → Sender
-sender_in b =
-    record { counters = counters_in b; slots = record { lengths = lengths_in b; channels = channels_in b; bad = marks_of (at b 37) } }
+sender_in b = record { counters = counters_in b; slots = eight (slot_from b) }

@@ -2,13 +2,11 @@
 -- Assumes nothing.
 use Prim.Native.Nat.{ℕ, ◌/◌, ◌%◌}
 use mathlib.Core.Path.{◌≡◌, refl}
-use mathlib.Core.Bool.{true, false}
+use mathlib.Core.Bool.{Bool, true, false, cond}
 use native.Mathlib.Omega.{arith}
 use borrow.Author.Tests.{eq-eqb}
-use Rattle.packet_rules.specs.declared.DataPacket.{DataPacket}
-use Rattle.packet_rules.specs.declared.DataPacket.TheVariants.{NoData, InData}
-use Rattle.packet_rules.specs.declared.PriorityPacket.{PriorityPacket}
-use Rattle.packet_rules.specs.declared.PriorityPacket.TheVariants.{NoPriority, InPriority}
+use Rattle.packet_rules.specs.Open.{OpenData, OpenPriority, open_data}
+use Rattle.std.specs.Prelude.{Some, None}
 use Rattle.packet_rules.specs.declared.Due.TheVariants.{Channel, Opening, Closing, FirstCrc, SecondCrc, LmpType, LmpNumber, LmpCheck}
 use Rattle.packet_rules.specs.declared.Phase.{Phase}
 use Rattle.packet_rules.specs.declared.Phase.TheVariants.{Free, Next, Idles, Dropping}
@@ -18,16 +16,20 @@ use Rattle.host_rules.specs.ReaderBytes.{two, packet_tag, packet_channel, packet
 halves : (n : ℕ) → two (n / 256) (n % 256) ≡ n
 halves n = omega arith
 
-packet_again : (p : DataPacket) → packet_of (packet_tag p) (packet_channel p) (packet_register p) ≡ p
+begun_again : (h c : ℕ) (begun : Bool) → packet_of (cond begun 2 1) h c ≡ open_data h begun c
 unfolding packet_of
-packet_again NoData = refl
-packet_again (InData h true c) = refl
-packet_again (InData h false c) = refl
+begun_again h c true = refl
+begun_again h c false = refl
 
-priority_again : (p : PriorityPacket) → priority_of (priority_tag p) (priority_opening p) (priority_count p) (priority_register p) ≡ p
+packet_again : (p : OpenData) → packet_of (packet_tag p) (packet_channel p) (packet_register p) ≡ p
+unfolding packet_of
+packet_again None = refl
+packet_again (Some outer) = begun_again outer.channel outer.register outer.begun
+
+priority_again : (p : OpenPriority) → priority_of (priority_tag p) (priority_opening p) (priority_count p) (priority_register p) ≡ p
 unfolding priority_of
-priority_again NoPriority = refl
-priority_again (InPriority o n c) = refl
+priority_again None = refl
+priority_again (Some inner) = refl
 
 phase_again : (p : Phase) → phase_of (phase_tag p) (phase_first p) (phase_second p) ≡ p
 unfolding phase_of

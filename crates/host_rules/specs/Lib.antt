@@ -1,4 +1,5 @@
 pub mod Numbers
+pub mod Answers
 pub mod Characters
 pub mod ReaderBytes
 pub mod Stepping

@@ -2,16 +2,14 @@
 --   0, 1  S                      2  the data packet's tag       3  its channel       4, 5  its register
 --   6  the priority packet's tag     7  its opening byte     8, 9  its count     10, 11  its register
 --   12  the phase's tag     13, 14  its two bytes. What a tag has no use for is zero.
-use Rattle.std.specs.Prelude.{ℕ, ◌+◌, ◌*◌, ◌/◌, ◌%◌, Bool, true, false, cond, ◌&&◌, List, [], ◌∷◌, eqb, get_or}
-use Rattle.packet_rules.specs.declared.DataPacket.{DataPacket}
-use Rattle.packet_rules.specs.declared.DataPacket.TheVariants.{NoData, InData}
-use Rattle.packet_rules.specs.declared.PriorityPacket.{PriorityPacket}
-use Rattle.packet_rules.specs.declared.PriorityPacket.TheVariants.{NoPriority, InPriority}
+use Rattle.std.specs.Prelude.{ℕ, ◌+◌, ◌*◌, ◌/◌, ◌%◌, Bool, true, false, cond, ◌&&◌, List, [], ◌∷◌, eqb, get_or, Some, None}
+use Rattle.packet_rules.specs.Open.{OpenData, OpenPriority, open_data, open_priority}
 use Rattle.packet_rules.specs.declared.Due.{Due}
 use Rattle.packet_rules.specs.declared.Due.TheVariants.{Channel, Opening, Closing, FirstCrc, SecondCrc, LmpType, LmpNumber, LmpCheck}
 use Rattle.packet_rules.specs.declared.Phase.{Phase}
 use Rattle.packet_rules.specs.declared.Phase.TheVariants.{Free, Next, Idles, Dropping}
 use Rattle.packet_rules.specs.declared.Reader.{Reader}
+use Rattle.packet_rules.specs.Answers.{Made, made, not_made}
 use Rattle.host_rules.specs.Numbers.{mark_of, mark_number}
 
 abbrev pub two : ℕ → ℕ → ℕ
@@ -19,42 +17,42 @@ two high low = high * 256 + low
 
 -- ---- the data packet: 0 none, 1 open and no byte yet, 2 open with a byte
 
-abbrev pub packet_tag : DataPacket → ℕ
-packet_tag NoData = 0
-packet_tag (InData h begun c) = cond begun 2 1
+abbrev pub packet_tag : OpenData → ℕ
+packet_tag None = 0
+packet_tag (Some outer) = cond outer.begun 2 1
 
-abbrev pub packet_channel : DataPacket → ℕ
-packet_channel NoData = 0
-packet_channel (InData h begun c) = h
+abbrev pub packet_channel : OpenData → ℕ
+packet_channel None = 0
+packet_channel (Some outer) = outer.channel
 
-abbrev pub packet_register : DataPacket → ℕ
-packet_register NoData = 0
-packet_register (InData h begun c) = c
+abbrev pub packet_register : OpenData → ℕ
+packet_register None = 0
+packet_register (Some outer) = outer.register
 
-unfoldable pub packet_of : ℕ → ℕ → ℕ → DataPacket
+unfoldable pub packet_of : ℕ → ℕ → ℕ → OpenData
 packet_of tag channel register =
-    cond (eqb tag 1) (InData channel false register) (cond (eqb tag 2) (InData channel true register) NoData)
+    cond (eqb tag 1) (open_data channel false register) (cond (eqb tag 2) (open_data channel true register) None)
 
 -- ---- the priority packet: 0 none, 1 open
 
-abbrev pub priority_tag : PriorityPacket → ℕ
-priority_tag NoPriority = 0
-priority_tag (InPriority o n c) = 1
+abbrev pub priority_tag : OpenPriority → ℕ
+priority_tag None = 0
+priority_tag (Some inner) = 1
 
-abbrev pub priority_opening : PriorityPacket → ℕ
-priority_opening NoPriority = 0
-priority_opening (InPriority o n c) = o
+abbrev pub priority_opening : OpenPriority → ℕ
+priority_opening None = 0
+priority_opening (Some inner) = inner.opening
 
-abbrev pub priority_count : PriorityPacket → ℕ
-priority_count NoPriority = 0
-priority_count (InPriority o n c) = n
+abbrev pub priority_count : OpenPriority → ℕ
+priority_count None = 0
+priority_count (Some inner) = inner.count
 
-abbrev pub priority_register : PriorityPacket → ℕ
-priority_register NoPriority = 0
-priority_register (InPriority o n c) = c
+abbrev pub priority_register : OpenPriority → ℕ
+priority_register None = 0
+priority_register (Some inner) = inner.register
 
-unfoldable pub priority_of : ℕ → ℕ → ℕ → ℕ → PriorityPacket
-priority_of tag opening count register = cond (eqb tag 1) (InPriority opening count register) NoPriority
+unfoldable pub priority_of : ℕ → ℕ → ℕ → ℕ → OpenPriority
+priority_of tag opening count register = cond (eqb tag 1) (open_priority opening count register) None
 
 -- ---- the phase: 0 free, 1 dropping, 2 so many IDL due, from 3 on the byte that is due
 
@@ -133,10 +131,10 @@ reader_bytes r =
 abbrev pub byte_at : List ℕ → ℕ → ℕ
 byte_at b i = get_or b i 0
 
-abbrev pub packet_in : List ℕ → DataPacket
+abbrev pub packet_in : List ℕ → OpenData
 packet_in b = packet_of (byte_at b 2) (byte_at b 3) (two (byte_at b 4) (byte_at b 5))
 
-abbrev pub priority_in : List ℕ → PriorityPacket
+abbrev pub priority_in : List ℕ → OpenPriority
 priority_in b = priority_of (byte_at b 6) (byte_at b 7) (two (byte_at b 8) (byte_at b 9)) (two (byte_at b 10) (byte_at b 11))
 
 abbrev pub phase_in : List ℕ → Phase
@@ -148,11 +146,11 @@ reader_in b =
 
 -- ---- bytes that are the encoding of what they stand for: a tag of the list above, and zero where it has no use for a byte
 
-unfoldable pub packet_fits : DataPacket → ℕ → ℕ → ℕ → Bool
+unfoldable pub packet_fits : OpenData → ℕ → ℕ → ℕ → Bool
 packet_fits p tag channel register =
     eqb (packet_tag p) tag && (eqb (packet_channel p) channel && eqb (packet_register p) register)
 
-unfoldable pub priority_fits : PriorityPacket → ℕ → ℕ → ℕ → ℕ → Bool
+unfoldable pub priority_fits : OpenPriority → ℕ → ℕ → ℕ → ℕ → Bool
 priority_fits p tag opening count register =
     eqb (priority_tag p) tag
     && (eqb (priority_opening p) opening && (eqb (priority_count p) count && eqb (priority_register p) register))
@@ -165,3 +163,7 @@ is_reader b =
     packet_fits (packet_in b) (byte_at b 2) (byte_at b 3) (two (byte_at b 4) (byte_at b 5))
     && (priority_fits (priority_in b) (byte_at b 6) (byte_at b 7) (two (byte_at b 8) (byte_at b 9)) (two (byte_at b 10) (byte_at b 11))
     && phase_fits (phase_in b) (byte_at b 12) (byte_at b 13) (byte_at b 14))
+
+-- the state of such bytes; refusal 1: bytes that encode no state
+unfoldable pub loaded : List ℕ → Made
+loaded b = cond (is_reader b) (made (reader_in b)) (not_made 1)

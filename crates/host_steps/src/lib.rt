@@ -1,98 +1,79 @@
 // One step of the packet reader, its state in 15 bytes, and what it says in numbers.
 #![tactic(auto)]
 
-ghost use Rattle.std.specs.Prelude.{◌≡◌};
+ghost use Rattle.std.specs.Prelude.{◌≡◌, ◌≤◌, ◌<◌};
+ghost use Rattle.std.specs.Result.{IfOk, IfErr};
+ghost use Rattle.refusal.specs.declared.Refusal.TheVariants.{OutOfRange};
 ghost use Rattle.character_rules.specs.Answers.{reading_says};
-ghost use Rattle.packet_rules.specs.Answers.{event_says, step_says};
-ghost use Rattle.packet_rules.specs.Step.{refused_step};
-ghost use Rattle.host_rules.specs.Numbers.{mark_number};
-ghost use Rattle.host_rules.specs.Stepping.{result_of, step_numbers, number_told, told_of};
+ghost use Rattle.packet_rules.specs.Answers.{answer_says};
+ghost use Rattle.host_rules.specs.Characters.{symbol_of};
+ghost use Rattle.host_rules.specs.Stepping.{numbers_read, step_numbers, step_leaves, told_of};
+ghost use Rattle.host_steps.specs.Told.{answer_told_says};
 
 use character_rules::Decoded;
-use host_rules::Told;
-use packet_rules::{Event, Reader, Step};
+use host_rules::EventNumbers;
+use packet_rules::Event;
+use refusal::Refusal;
 use symbol::Symbol;
 
-// A character result in numbers: 0 clean, 2 wrong disparity, else invalid.
-fn result_of(violation: u32, byte: u8, control: u32) -> Decoded
-    ensures { reading_says result ≡ result_of violation byte control }
+// A symbol in numbers; refusal 1: a byte over 255.
+fn symbol_of(byte: u32, control: u32) -> Result<Symbol, Refusal>
+    ensures ok { IfOk result (λ s. (byte ≤ 255) × (s ≡ symbol_of byte control)) }
+    ensures err { IfErr result (λ r. (255 < byte) × (r ≡ OutOfRange)) }
 {
-    let symbol = Symbol {
+    let byte = u8::try_from(byte).map_err(|_| Refusal::OutOfRange)?;
+    Ok(Symbol {
         byte,
         control: control != 0,
-    };
-    if violation == 0 {
-        return Decoded::Clean(symbol, -1);
-    }
-    if violation == 2 {
-        return Decoded::WrongDisparity(symbol, -1);
-    }
-    Decoded::Invalid(-1)
+    })
 }
 
-fn refused(r: Reader) -> Step
-    ensures { step_says result ≡ refused_step r 1 }
+// A character result in the numbers that C passes: 0 clean, 1 invalid, 2 wrong disparity.
+fn result_of(violation: u32, byte: u32, control: u32) -> Result<Decoded, Refusal>
+    ensures { reading_says result ≡ numbers_read violation byte control }
 {
-    Step {
-        event: Event::Refused(refusal::OUT_OF_RANGE),
-        reader: r,
+    match violation {
+        0 => Ok(Decoded::Clean(symbol_of(byte, control)?, -1)),
+        1 => Ok(Decoded::Invalid(-1)),
+        2 => Ok(Decoded::WrongDisparity(symbol_of(byte, control)?, -1)),
+        _ => Err(Refusal::OutOfRange),
     }
 }
 
-// One step over a state in bytes.
-pub fn step(bytes: [u8; 15], violation: u32, byte: u32, control: u32) -> Step
-    ensures { step_says result ≡ step_numbers bytes violation byte control }
+// One step over a state in bytes, which a refusal leaves as they stood.
+pub fn step(bytes: &mut [u8; 15], violation: u32, byte: u32, control: u32) -> Result<Event, Refusal>
+    ensures { (answer_says result ≡ (step_numbers bytes.old violation byte control).said)
+        × (bytes.new ≡ step_leaves bytes.old violation byte control) }
 {
-    let r = host_reader::reader_in(bytes);
-    if !host_reader_bytes::is_reader(bytes) {
-        return refused(r);
-    }
-    if 2 < violation {
-        return refused(r);
-    }
-    if violation == 1 {
-        return packet_reader::step(r, Decoded::Invalid(-1));
-    }
-    if 255 < byte {
-        return refused(r);
-    }
-    packet_reader::step(r, result_of(violation, byte as u8, control))
+    let mut reader = host_reader_bytes::reader_from(*bytes)?;
+    let decoded = result_of(violation, byte, control)?;
+    let event = packet_reader::step(&mut reader, Ok(decoded))?;
+    *bytes = host_reader_bytes::reader_bytes(reader);
+    Ok(event)
 }
 
-fn number_told(event: u32, value: u8, number: u8) -> Told
-    ensures { result ≡ number_told event value number }
+fn event_numbers(event: u32, value: u8, number: u8) -> EventNumbers
+    ensures { result ≡ record { event = event; value = value; number = number } }
 {
-    Told {
-        refusal: 0,
+    EventNumbers {
         event,
-        value: value as u32,
-        number: number as u32,
+        value: u32::from(value),
+        number: u32::from(number),
     }
 }
 
-fn mark_number(mark: bool) -> u8
-    ensures { result ≡ mark_number mark }
+// What a step says, in the numbers that C gets; a refusal is handed on. It is no From, which a Result cannot have from another crate.
+#[tactic(auto, unfolding(host_rules::specs::Stepping::told_of))]
+pub fn told(said: Result<Event, Refusal>) -> Result<EventNumbers, Refusal>
+    ensures { answer_told_says result ≡ told_of (answer_says said) }
 {
-    if mark { 1 } else { 0 }
-}
-
-// What a step says, in numbers.
-pub fn told(e: Event) -> Told
-    ensures { result ≡ told_of (event_says e) }
-{
-    match e {
-        Event::Nothing => number_told(0, 0, 0),
-        Event::Violation(n) => number_told(1, n, 0),
-        Event::StartData(channel) => number_told(2, channel, 0),
-        Event::StartPriority { channel, segment } => number_told(3, channel, segment),
-        Event::Byte(b) => number_told(4, b, 0),
-        Event::End { bad } => number_told(5, mark_number(bad), 0),
-        Event::Lmp { nack, segment } => number_told(6, mark_number(nack), segment),
-        Event::Refused(n) => Told {
-            refusal: n as u32,
-            event: 0,
-            value: 0,
-            number: 0,
-        },
-    }
+    Ok(match said? {
+        Event::Nothing => event_numbers(0, 0, 0),
+        Event::Violation(violation) => event_numbers(1, violation.number(), 0),
+        Event::StartData(channel) => event_numbers(2, channel, 0),
+        Event::StartPriority { channel, segment } => event_numbers(3, channel, segment),
+        Event::Byte(b) => event_numbers(4, b, 0),
+        Event::End { bad } => event_numbers(5, u8::from(bad), 0),
+        Event::Lmp { nack, segment } => event_numbers(6, u8::from(nack), segment),
+    })
 }

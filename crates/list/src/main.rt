@@ -3,17 +3,18 @@
 
 ghost use Rattle.std.specs.Prelude.{◌≤◌, IfOk, length};
 
-use listing_rules::{Listing, Piece};
+use listing_rules::Listing;
 use std::io;
 use std::io::Read;
 
 // More than the pieces of any capture's listing: the header, 820 of lines, the last line.
-const TURNS: u32 = 1024;
+const TURNS: usize = 1024;
 
 // One byte more than a capture may have, so that a longer one is seen and refused.
 const MOST_READ: usize = 65536;
 
-// Reads until the buffer is full or the input ends, and answers how many bytes came.
+// Reads until the buffer is full or the input ends, and answers how many bytes came. Each program that reads has this for itself: what stands on the
+// input no equation says, and a contract of a library's public function is equations alone.
 fn read_full(rt: &impl Input, buf: &mut [u8]) -> io::Result<usize>
     ensures { IfOk result (λ n. n ≤ length buf.old) }
 {
@@ -32,54 +33,24 @@ fn read_full(rt: &impl Input, buf: &mut [u8]) -> io::Result<usize>
     Ok(n)
 }
 
-// Writes the first n bytes, and answers whether that was done.
-fn write_front(rt: &impl Print, bytes: &[u8], n: usize) -> io::Result<bool> {
-    if n <= bytes.len() {
-        rt.write_all(&bytes[..n])?;
-        return Ok(true);
-    }
-    Ok(false)
-}
-
-fn write_out(rt: &impl Print, out: &[u8; 2048], n: usize) -> io::Result<bool> {
-    write_front(rt, out, n)
-}
-
-// Writes the next piece, and answers the listing after it.
-fn write_piece(rt: &impl Print, capture: &[u8], listing: Listing) -> io::Result<Listing> {
+// Writes the next piece, and answers whether there was one.
+fn write_piece(rt: &impl Print, capture: &[u8], listing: &mut Listing) -> io::Result<bool> {
     let mut out = [0u8; 2048];
-    let next = listing::next(capture, listing, &mut out);
-    let piece = next.piece;
-    let after = next.listing;
-    match piece {
-        Piece::Written(n) => {
-            if write_out(rt, &out, n)? {
-                return Ok(after);
-            }
-            Ok(Listing::Ended)
+    match listing::next(capture, listing, &mut out) {
+        Ok(Some(n)) if n <= out.len() => {
+            rt.write_all(&out[..n])?;
+            Ok(true)
         }
-        Piece::Nothing => Ok(Listing::Ended),
-        Piece::Refused(_) => Ok(Listing::Ended),
-    }
-}
-
-fn is_ended(listing: Listing) -> bool {
-    match listing {
-        Listing::Fresh => false,
-        Listing::Going(_) => false,
-        Listing::Ended => true,
+        _ => Ok(false),
     }
 }
 
 fn write_listing(rt: &impl Print, capture: &[u8]) -> io::Result<()> {
     let mut listing = Listing::Fresh;
-    let mut turns = TURNS;
-    while turns > 0 {
-        if is_ended(listing) {
-            return Ok(());
+    for _ in 0..TURNS {
+        if !write_piece(rt, capture, &mut listing)? {
+            break;
         }
-        listing = write_piece(rt, capture, listing)?;
-        turns -= 1;
     }
     Ok(())
 }

@@ -11,12 +11,12 @@ use lib.Dec.{leb, leb→le}
 use lib.ListN.{length, drop, take, get_or}
 use lib.Seq.{take-suc, length-take-le}
 use Rattle.laws.proofs.Bools.{true_t, and_left, and_right}
-use Rattle.character_rules.specs.Answers.{Reading, reading_says}
+use Rattle.character_rules.specs.Answers.{Reading, decoded_says}
 use Rattle.character_rules.specs.Results.{unpacked}
 use Rattle.character_rules.specs.declared.Decoded.{Decoded}
 use Rattle.packet_rules.specs.declared.Reader.{Reader}
-use Rattle.packet_rules.specs.declared.Step.{Step}
-use Rattle.packet_rules.specs.Answers.{Said, Answer, event_says, step_says}
+use Rattle.packet_rules.specs.declared.Event.{Event}
+use Rattle.packet_rules.specs.Answers.{Said, event_says}
 use Rattle.packet_rules.specs.Step.{step_of}
 use Rattle.packet_rules.specs.Line.{said_of, after_of}
 use Rattle.listing_rules.specs.declared.Reached.{Reached}
@@ -30,41 +30,44 @@ use Rattle.listing_lines.proofs.Events.{event_short}
 
 -- ---- one result
 
-module _ (place result : ℕ) (p : Progress) (old new : List ℕ) (g : Decoded) (s : Step) (after n : ℕ) (eg : reading_says g ≡ unpacked result)
-    (es : step_says s ≡ step_of p.reader (reading_says g)) (w : Wrote p.at (event_line place (fields_of (event_says s.event))) old new after)
-    (en : n ≡ listed (fields_of (event_says s.event))) where
-  step_is : step_says s ≡ step_of p.reader (unpacked result)
-  step_is = es ∙ ap (step_of p.reader) eg
+module _ (place result : ℕ) (p : Progress) (old new : List ℕ) (g : Decoded) (said : Said) (q : Reader) (after n : ℕ) (eg : decoded_says g ≡ unpacked result)
+    (es : said ≡ (step_of p.reader (decoded_says g)).said) (er : q ≡ (step_of p.reader (decoded_says g)).reader)
+    (w : Wrote p.at (event_line place (fields_of said)) old new after) (en : n ≡ listed (fields_of said)) where
+  fields : fields_of said ≡ fields_of (step_of p.reader (unpacked result)).said
+  fields = ap fields_of es ∙ ap (λ (x : Reading). fields_of (step_of p.reader x).said) eg
 
-  fields : fields_of (event_says s.event) ≡ fields_of (step_of p.reader (unpacked result)).said
-  fields = ap (λ (a : Answer). fields_of a.said) step_is
-
-  pub listed_one : Listed place (result ∷ []) p old new (record { at = after; events = p.events + n; reader = s.reader })
+  pub listed_one : Listed place (result ∷ []) p old new (record { at = after; events = p.events + n; reader = q })
   unfolding lines_from events_in said_of after_of
   listed_one =
       record {
         text = subst (λ (t : List ℕ). Wrote p.at t old new after)
             (ap (event_line place) fields ∙ sym (append-nil (event_line place (fields_of (step_of p.reader (unpacked result)).said)))) w;
         events = ap (λ (k : ℕ). p.events + k) (en ∙ ap listed fields ∙ sym (add-zero (listed (fields_of (step_of p.reader (unpacked result)).said))));
-        reader = ap (λ (a : Answer). a.reader) step_is;
+        reader = er ∙ ap (λ (x : Reading). (step_of p.reader x).reader) eg;
       }
 
-  pub listed_short : after ≤ p.at + 32
-  listed_short = let z = w.size in let h = event_short place s.event in omega arith
+  pub listed_short : (e : Event) → said ≡ event_says e → after ≤ p.at + 32
+  listed_short e is =
+      let z = w.size in
+      let h = event_short place e in
+      let same : length (event_line place (fields_of said)) ≡ length (event_line place (fields_of (event_says e))) =
+      ap (λ (s : Said). length (event_line place (fields_of s))) is in
+      omega arith
 
 no_line : (place : ℕ) (fields : List (List ℕ)) → listed fields ≡ 0 → event_line place fields ≡ []
 no_line place [] e = refl
 no_line place (f ∷ fs) e = absurd (omega arith)
 
 -- a result that has no line
-module _ (place result : ℕ) (p : Progress) (old : List ℕ) (g : Decoded) (s : Step) (eg : reading_says g ≡ unpacked result)
-    (es : step_says s ≡ step_of p.reader (reading_says g)) (none : listed (fields_of (event_says s.event)) ≡ 0) where
-  pub listed_nothing : Listed place (result ∷ []) p old old (record { at = p.at; events = p.events; reader = s.reader })
+module _ (place result : ℕ) (p : Progress) (old : List ℕ) (g : Decoded) (said : Said) (q : Reader) (eg : decoded_says g ≡ unpacked result)
+    (es : said ≡ (step_of p.reader (decoded_says g)).said) (er : q ≡ (step_of p.reader (decoded_says g)).reader)
+    (none : listed (fields_of said) ≡ 0) where
+  pub listed_nothing : Listed place (result ∷ []) p old old (record { at = p.at; events = p.events; reader = q })
   listed_nothing =
-      let w : Wrote p.at (event_line place (fields_of (event_says s.event))) old old p.at =
-      subst (λ (t : List ℕ). Wrote p.at t old old p.at) (sym (no_line place (fields_of (event_says s.event)) none)) (wrote_none p.at old) in
-      subst (λ (k : ℕ). Listed place (result ∷ []) p old old (record { at = p.at; events = k; reader = s.reader })) (add-zero p.events)
-      (listed_one place result p old old g s p.at 0 eg es w (sym none))
+      let w : Wrote p.at (event_line place (fields_of said)) old old p.at =
+      subst (λ (t : List ℕ). Wrote p.at t old old p.at) (sym (no_line place (fields_of said) none)) (wrote_none p.at old) in
+      subst (λ (k : ℕ). Listed place (result ∷ []) p old old (record { at = p.at; events = k; reader = q })) (add-zero p.events)
+      (listed_one place result p old old g said q p.at 0 eg es er w (sym none))
 
 -- ---- two runs
 

@@ -1,7 +1,7 @@
 // The lines of a run of results: each is a step of the reader and perhaps a line.
 #![tactic(auto)]
 
-ghost use Rattle.std.specs.Prelude.{◌≡◌, [], ◌∷◌, ◌+◌, ◌≤◌, ◌<◌};
+ghost use Rattle.std.specs.Prelude.{◌≡◌, cond, [], ◌∷◌, ◌+◌, ◌≤◌, ◌<◌};
 ghost use Rattle.packet_rules.specs.Answers.{event_says};
 ghost use Rattle.listing_rules.specs.Lines.{fields_of, event_line, listed};
 ghost use Rattle.listing_text.specs.Writing.{Wrote};
@@ -11,13 +11,14 @@ use listing_rules::Reached;
 use packet_rules::{Event, Reader};
 
 // How the lines of a run stand so far: the index after them, the events, and the reader after the run.
-#[derive(Clone, Copy)]
+#[derive(Clone, Copy, Debug, PartialEq, Eq)]
 pub struct Progress {
     pub at: usize,
     pub events: usize,
     pub reader: Reader,
 }
 
+// A line of at most 32 bytes has room from 2,016 on; the output and the index go side by side as in `listing_text`.
 fn put_end_of_packet(place: usize, bad: bool, at: usize, out: &mut [u8; 2048]) -> usize
     requires { at ≤ 2016 }
     ensures { Wrote at (event_line place (fields_of (event_says (Event.End bad)))) out.old out.new result }
@@ -33,9 +34,9 @@ fn put_lmp(place: usize, nack: bool, number: u8, at: usize, out: &mut [u8; 2048]
     ensures { Wrote at (event_line place (fields_of (event_says (Event.Lmp nack number)))) out.old out.new result }
 {
     if nack {
-        return listing_text::put_numbered(place, b" lmp NACK ", number as usize, at, out);
+        return listing_text::put_numbered(place, b" lmp NACK ", usize::from(number), at, out);
     }
-    listing_text::put_numbered(place, b" lmp ACK ", number as usize, at, out)
+    listing_text::put_numbered(place, b" lmp ACK ", usize::from(number), at, out)
 }
 
 // An event's line; none for nothing and for a byte.
@@ -44,46 +45,38 @@ fn put_event(place: usize, event: Event, at: usize, out: &mut [u8; 2048]) -> usi
     ensures { Wrote at (event_line place (fields_of (event_says event))) out.old out.new result }
 {
     match event {
-        Event::Nothing => at,
+        Event::Nothing | Event::Byte(_) => at,
         Event::StartData(channel) => listing_text::put_numbered(
             place,
             b" start data ",
-            channel as usize,
+            usize::from(channel),
             at,
             out,
         ),
-        Event::StartPriority {
-            channel,
-            segment: _,
-        } => listing_text::put_numbered(place, b" start priority ", channel as usize, at, out),
-        Event::Byte(_) => at,
+        Event::StartPriority { channel, .. } => listing_text::put_numbered(
+            place,
+            b" start priority ",
+            usize::from(channel),
+            at,
+            out,
+        ),
         Event::End { bad } => put_end_of_packet(place, bad, at, out),
         Event::Lmp { nack, segment } => put_lmp(place, nack, segment, at, out),
-        Event::Violation(n) => listing_text::put_numbered(
+        Event::Violation(violation) => listing_text::put_numbered(
             place,
             b" violation ",
-            n as usize,
+            usize::from(violation.number()),
             at,
             out,
         ),
-        Event::Refused(_) => at,
     }
 }
 
-// 1 for an event that has a line.
-fn listed_events(event: Event) -> usize
-    ensures { result ≡ listed (fields_of (event_says event)) }
+// Whether an event has a line.
+fn has_line(event: Event) -> bool
+    ensures { cond result 1 0 ≡ listed (fields_of (event_says event)) }
 {
-    match event {
-        Event::Nothing => 0,
-        Event::StartData(_) => 1,
-        Event::StartPriority { .. } => 1,
-        Event::Byte(_) => 0,
-        Event::End { .. } => 1,
-        Event::Lmp { .. } => 1,
-        Event::Violation(_) => 1,
-        Event::Refused(_) => 0,
-    }
+    !matches!(event, Event::Nothing | Event::Byte(_))
 }
 
 // One result: a step of the reader, and the event's line. Most have none, and are done first.
@@ -91,34 +84,26 @@ fn put_result(res: u16, place: usize, p: Progress, out: &mut [u8; 2048]) -> Prog
     requires { (p.at ≤ 2016) × (p.events < 65536) }
     ensures { Listed place (res ∷ []) p out.old out.new result × (result.at ≤ p.at + 32) }
 {
-    let before = p.reader;
-    let s = packet_reader::step(before, character_reader::unpack_result(res));
-    let event = s.event;
-    let reader = s.reader;
-    let n = listed_events(event);
-    if n == 0 {
-        return Progress {
-            at: p.at,
-            events: p.events,
-            reader,
-        };
+    let mut reader = p.reader;
+    let decoded = character_reader::unpack_result(res);
+    let Ok(event) = packet_reader::step(&mut reader, Ok(decoded)) else {
+        return Progress { reader, ..p };
+    };
+    if !has_line(event) {
+        return Progress { reader, ..p };
     }
-    let at = put_event(place, event, p.at, out);
-    let events = p.events + n;
-    Progress { at, events, reader }
+    Progress {
+        at: put_event(place, event, p.at, out),
+        events: p.events + 1,
+        reader,
+    }
 }
 
 // Whether so many results, from such a place on, are a block.
 fn is_block(n: usize, place: usize, events: usize) -> bool
     ensures { result ≡ is_block n place events }
 {
-    if 64 < n {
-        return false;
-    }
-    if 52428 < place {
-        return false;
-    }
-    events <= 52428
+    n <= 64 && place <= 52428 && events <= 52428
 }
 
 // The lines of a block, at the front of the output; where it is no block, nothing is done.
@@ -126,20 +111,16 @@ pub fn put_results(results: &[u16], from: Reached, out: &mut [u8; 2048]) -> Prog
     ensures { (result ≡ progress_of results.now from)
         × (out.new ≡ lines_put results.now from out.old) }
 {
-    let place = from.place;
-    let reader = from.reader;
     let mut p = Progress {
         at: 0,
         events: from.events,
-        reader,
+        reader: from.reader,
     };
-    if !is_block(results.len(), place, from.events) {
+    if !is_block(results.len(), from.place, from.events) {
         return p;
     }
-    let mut i = 0;
-    while i < results.len() {
-        p = put_result(results[i], place + i, p, &mut *out);
-        i += 1;
+    for (i, &res) in results.iter().enumerate() {
+        p = put_result(res, from.place + i, p, &mut *out);
     }
     p
 }

@@ -15,8 +15,9 @@ use Rattle.laws.specs.Lists.{all_of}
 use Rattle.laws.proofs.Bools.{and_left, and_right, T_true, true_t}
 use Rattle.laws.proofs.Cases.{by_cases}
 use Rattle.character_rules.specs.Disparity.{is_disparity}
-use Rattle.character_rules.specs.declared.RunRead.{RunRead}
-use Rattle.character_rules.specs.declared.RunRead.TheVariants.{Read, Refused as NotRun}
+use Rattle.std.specs.Prelude.{Result, Ok, Err}
+use Rattle.std.specs.Result.{IsOk}
+use Rattle.refusal.specs.declared.Refusal.{Refusal}
 use Rattle.character_rules.specs.Answers.{Reading, RunReading, run_read, run_says}
 use Rattle.character_rules.specs.Results.{unpacked, after_one, in_range, run_results, run_closing, run_reading, run_output, readings_of}
 use Rattle.character_rules.proofs.Packed.{unpacked_reading, after_disparity}
@@ -25,15 +26,21 @@ use Rattle.capture_rules.specs.Capture.{character_count, characters_of, legal}
 use Rattle.capture_rules.proofs.Packing.{characters_length}
 use Rattle.packet_rules.specs.Line.{said_of, after_of}
 use Rattle.listing_rules.specs.declared.Reached.{Reached}
+use Rattle.listing_rules.specs.declared.Listing.{Listing}
 use Rattle.listing_rules.specs.declared.Listing.TheVariants.{Going, Ended}
+use Rattle.listing_rules.specs.declared.Piece.{Piece}
 use Rattle.listing_rules.specs.Lines.{lines_from, events_in, end_line}
-use Rattle.listing_rules.specs.Pieces.{wrote, keeps_rule, next_characters, said_of_run, after_run, is_going, piece_of, listing_after, done_says}
+use Rattle.listing_rules.specs.Pieces.{keeps_rule, next_characters, said_of_run, after_run, is_going, piece_of, listing_after}
 use Rattle.listing_rules.proofs.Whole.{rule_disparity, nexts_range}
 use Rattle.listing_lines.specs.declared.Progress.{Progress}
 use Rattle.listing_text.specs.Writing.{Wrote}
 use Rattle.listing_lines.specs.Results.{takes, Listed}
 use Rattle.listing_pieces.specs.Blocks.{block_length}
+use Rattle.listing_rules.specs.Pieces.{Puts}
 use Rattle.listing_text.proofs.Written.{wrote_whole}
+
+abbrev piece : ℕ → Listing → Piece
+piece n l = record { length = n; listing = l }
 
 -- ---- as many as are left, at most 64
 
@@ -70,6 +77,10 @@ length_run (c ∷ cs) d = ap suc (length_run cs (after_one c d))
 
 -- ---- the block
 
+ok_or : (r : Result ℤ Refusal) → ((m : Refusal) → r ≡ Err m → ⊥) → IsOk r
+ok_or (Ok d) f = refl
+ok_or (Err m) f = absurd (f m refl)
+
 abbrev is_some : Option ℤ → ℕ
 is_some none = 0
 is_some (some d) = 1
@@ -104,12 +115,20 @@ module _ (capture : List ℕ) (p : Reached) (ok : legal capture ≡ true) (k : k
   signed : is_disparity p.disparity ≡ true
   signed = rule_disparity cs p k
 
+  -- the characters, at the front of an array
+  pub held : (zeros part rest : List ℕ) → 64 ≤ length zeros → part ≡ take (length (take n zeros)) left → take n (part ++ rest) ≡ take n left
+  held zeros part rest room e =
+      let low = block_low (character_count (length capture) - p.place) in
+      let long : length (take n zeros) ≡ n = length-take-le n zeros (omega arith) in
+      let same : part ≡ take n left = e ∙ ap (λ (m : ℕ). take m left) long in
+      take_at part rest n (ap length (same ∙ taken) ∙ size) ∙ same
+
   -- the characters and their results, as the code holds them
-  module _ (characters zeros results out : List ℕ) (d : ℤ) (r : RunRead) (room : 64 ≤ length zeros)
-      (hold : characters ≡ take n left ++ drop n results) (ed : d ≡ p.disparity) (said : run_says r ≡ run_reading (take n characters) d (length zeros))
-      (output : out ≡ run_output (take n characters) d zeros) where
-    ours : take n characters ≡ cs
-    ours = ap (take n) hold ∙ take_at (take n left) (drop n results) n (ap length taken ∙ size) ∙ taken
+  module _ (characters zeros out : List ℕ) (d : ℤ) (r : Result ℤ Refusal) (room : 64 ≤ length zeros)
+      (hold : characters ≡ take n left) (ed : d ≡ p.disparity) (said : run_says r ≡ run_reading characters d (length zeros))
+      (output : out ≡ run_output characters d zeros) where
+    ours : characters ≡ cs
+    ours = hold ∙ taken
 
     fits : length cs ≤ length zeros
     fits = let s = size in let f = block_low (character_count (length capture) - p.place) in omega arith
@@ -122,13 +141,16 @@ module _ (capture : List ℕ) (p : Reached) (ok : legal capture ≡ true) (k : k
         )
 
     -- it is not refused
-    pub never_refused : (m : ℕ) → r ≡ NotRun m → ⊥
+    never_refused : (m : Refusal) → r ≡ Err m → ⊥
     never_refused m f =
         let z : is_some none ≡ is_some (some (run_closing cs p.disparity)) = ap (λ (x : RunReading). is_some x.disparity)
         (sym (ap run_says f) ∙ done.0) in
         omega arith
 
-    module _ (e again : ℤ) (is : r ≡ Read e) (ea : again ≡ e) (old new : List ℕ) (q : Progress)
+    pub is_read : IsOk r
+    is_read = ok_or r never_refused
+
+    module _ (e again : ℤ) (is : r ≡ Ok e) (ea : again ≡ e) (old new : List ℕ) (q : Progress)
         (l : Listed p.place (take n out) (record { at = 0; events = p.events; reader = p.reader }) old new q) where
       closes : again ≡ run_closing cs p.disparity
       closes = ea ∙ ap (λ (x : RunReading). the_one e x.disparity) (sym (ap run_says is) ∙ done.0)
@@ -159,9 +181,9 @@ module _ (capture : List ℕ) (p : Reached) (ok : legal capture ≡ true) (k : k
           let c : q.reader ≡ after_of p.reader (readings_of cs p.disparity) = l.reader ∙ ap (after_of p.reader) readings in
           λ i. record { place = a i; events = b i; disparity = closes i; reader = c i }
 
-      pub block_is : (wrote q.at (Going (record { place = p.place + n; events = q.events; disparity = again; reader = q.reader })) ≡ done_says capture (Going p))
-          × (new ≡ piece_of capture (Going p) ++ drop (length (piece_of capture (Going p))) old)
-      block_is = (ap₂ wrote whole.0 (ap Going reached ∙ sym after), whole.1)
+      pub block_is : Puts capture (Going p) old
+          (record { length = q.at; listing = Going (record { place = p.place + n; events = q.events; disparity = again; reader = q.reader }) }) new
+      block_is = record { says = ap₂ piece whole.0 (ap Going reached ∙ sym after); whole = whole.1 }
 
 -- ---- the results are a block
 
@@ -172,10 +194,10 @@ block_takes results p a b c = simp (le-leb (length results) 64 a, le-leb p.place
 
 pub end_is : (capture : List ℕ) (p : Reached) (n : ℕ) (old new : List ℕ) → character_count (length capture) ≤ p.place
     → n ≡ length (end_line p.place p.events) → new ≡ end_line p.place p.events ++ drop (length (end_line p.place p.events)) old
-    → (wrote n Ended ≡ done_says capture (Going p)) × (new ≡ piece_of capture (Going p) ++ drop (length (piece_of capture (Going p))) old)
+    → Puts capture (Going p) old (record { length = n; listing = Ended }) new
 unfolding piece_of listing_after
 end_is capture p n old new h a b =
     let out : is_going capture p ≡ false = le-ltb p.place (character_count (length capture)) h in
     let bytes : end_line p.place p.events ≡ piece_of capture (Going p) = sym (rw out) in
     let after : Ended ≡ listing_after capture (Going p) = sym (rw out) in
-    (ap₂ wrote (a ∙ ap length bytes) after, b ∙ ap (λ (t : List ℕ). t ++ drop (length t) old) bytes)
+    record { says = ap₂ piece (a ∙ ap length bytes) after; whole = b ∙ ap (λ (t : List ℕ). t ++ drop (length t) old) bytes }

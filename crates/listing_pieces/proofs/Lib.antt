@@ -1,4 +1,4 @@
 pub mod Rule
-pub mod Places
 pub mod Blocks
 pub mod Nexts
+pub mod Stays

@@ -1,8 +1,9 @@
 -- A listing handed out in pieces: the header, then the lines of at most 64 characters a call, then the last line. A piece goes into a lent output
 -- of 2,048 bytes, where 64 lines fit.
-use Rattle.std.specs.Prelude.{ℕ, ◌+◌, Bool, cond, not, ◌&&◌, ◌||◌, List, [], ◌∷◌, ◌++◌, ltb, leb, negsuc, length, take, drop}
+use Rattle.std.specs.Prelude.{ℕ, ◌+◌, ◌≡◌, Bool, cond, not, ◌&&◌, ◌||◌, List, [], ◌∷◌, ◌++◌, ltb, leb, negsuc, length, take, drop, Result, Ok, Err, Option as Given, Some, None}
 use Rattle.std.proofs.Math.Option.{Option, none, some}
-use Rattle.refusal.specs.Order.{Check, check, outcome, left}
+use Rattle.refusal.specs.declared.Refusal.{Refusal}
+use Rattle.refusal.specs.Order.{Check, check, number_of, outcome, left}
 use Rattle.character_rules.specs.Disparity.{is_disparity}
 use Rattle.character_rules.specs.Results.{run_closing, readings_of}
 use Rattle.capture_rules.specs.Capture.{character_count, characters_of, legal}
@@ -14,8 +15,6 @@ use Rattle.listing_rules.specs.declared.Reached.{Reached}
 use Rattle.listing_rules.specs.declared.Listing.{Listing}
 use Rattle.listing_rules.specs.declared.Listing.TheVariants.{Fresh, Going, Ended}
 use Rattle.listing_rules.specs.declared.Piece.{Piece}
-use Rattle.listing_rules.specs.declared.Piece.TheVariants.{Written, Nothing, Refused}
-use Rattle.listing_rules.specs.declared.Next.{Next}
 use Rattle.listing_rules.specs.Lines.{lines_from, events_in, header, end_line, refused_line}
 
 -- ---- what an answer says: the refusal's number, if it was refused; how many bytes were written, where a piece was; the listing after it
@@ -34,13 +33,39 @@ wrote_nothing l = record { refusal = none; length = none; listing = l }
 abbrev pub refused : Listing → ℕ → Said
 refused l n = record { refusal = some n; length = none; listing = l }
 
-abbrev pub piece_says : Piece → Listing → Said
-piece_says (Written n) l = wrote n l
-piece_says Nothing l = wrote_nothing l
-piece_says (Refused n) l = refused l n
+-- the same of a call that is lent the listing: beside it the refusal's number, and how many bytes
+pub record PieceAnswer : Type 0 where
+  pub refusal : Option ℕ
+  pub length : Option ℕ
 
-abbrev pub says : Next → Said
-says a = piece_says a.piece a.listing
+abbrev pub piece_beside : Said → PieceAnswer
+piece_beside s = record { refusal = s.refusal; length = s.length }
+
+abbrev pub piece_says : Result (Given ℕ) Refusal → PieceAnswer
+piece_says (Ok (Some n)) = record { refusal = none; length = some n }
+piece_says (Ok None) = record { refusal = none; length = none }
+piece_says (Err r) = record { refusal = some (number_of r); length = none }
+
+-- and with the listing after it
+abbrev pub says : Result (Given ℕ) Refusal → Listing → Said
+says a l = record { refusal = (piece_says a).refusal; length = (piece_says a).length; listing = l }
+
+-- the same of a call that hands back the listing with the piece, and none where it is refused
+pub record LaterAnswer : Type 0 where
+  pub refusal : Option ℕ
+  pub length : Option ℕ
+  pub listing : Option Listing
+
+abbrev pub unless : Option ℕ → Listing → Option Listing
+unless none l = some l
+unless (some n) l = none
+
+abbrev pub later_beside : Said → LaterAnswer
+later_beside s = record { refusal = s.refusal; length = s.length; listing = unless s.refusal s.listing }
+
+abbrev pub later_says : Result Piece Refusal → LaterAnswer
+later_says (Ok p) = record { refusal = none; length = some p.length; listing = some p.listing }
+later_says (Err r) = record { refusal = some (number_of r); length = none; listing = none }
 
 -- ---- the written rule: no more events than characters, a disparity, and a reader that keeps its own rule
 
@@ -100,3 +125,8 @@ next_says capture l = outcome (next_checks capture l) (refused l) (done_says cap
 
 unfoldable pub next_leaves : List ℕ → Listing → List ℕ → List ℕ
 next_leaves capture l old = left (next_checks capture l) old (piece_of capture l ++ drop (length (piece_of capture l)) old)
+
+-- the next piece, put at an output's front, and the listing after it
+pub record Puts (capture : List ℕ) (l : Listing) (old : List ℕ) (piece : Piece) (new : List ℕ) : Type 0 where
+  pub says : piece ≡ record { length = length (piece_of capture l); listing = listing_after capture l }
+  pub whole : new ≡ piece_of capture l ++ drop (length (piece_of capture l)) old

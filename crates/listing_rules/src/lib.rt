@@ -1,10 +1,10 @@
-// Where a listing stands, and what asking for its next piece answers. The rules are in specs/, the theorems about them in proofs/.
+// Where a listing stands, and a piece of it. The rules are in specs/, the theorems about them in proofs/.
 #![tactic(auto)]
 
 use packet_rules::Reader;
 
 // The characters before a place are listed: so many events, the disparity there, and the reader after them.
-#[derive(Clone, Copy)]
+#[derive(Clone, Copy, Debug, PartialEq, Eq)]
 pub struct Reached {
     pub place: usize,
     pub events: usize,
@@ -12,7 +12,7 @@ pub struct Reached {
     pub reader: Reader,
 }
 
-#[derive(Clone, Copy)]
+#[derive(Clone, Copy, Debug, PartialEq, Eq)]
 pub enum Listing {
     // Nothing is listed yet.
     Fresh,
@@ -22,19 +22,9 @@ pub enum Listing {
     Ended,
 }
 
-#[derive(Clone, Copy)]
-pub enum Piece {
-    // So many bytes were put at the front of the output.
-    Written(usize),
-    // All is listed already.
-    Nothing,
-    // The number of the refusal.
-    Refused(u8),
-}
-
-// What asking for the next piece answers, and the listing after it.
-#[derive(Clone, Copy)]
-pub struct Next {
-    pub piece: Piece,
+// A piece that was put at the front of an output, and the listing after it.
+#[derive(Clone, Copy, Debug, PartialEq, Eq)]
+pub struct Piece {
+    pub length: usize,
     pub listing: Listing,
 }

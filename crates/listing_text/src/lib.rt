@@ -5,22 +5,22 @@ ghost use Rattle.std.specs.Prelude.{◌≡◌, ◌+◌, ◌≤◌, length};
 ghost use Rattle.listing_rules.specs.Text.{five_digits, leading_zeros, decimal};
 ghost use Rattle.listing_text.specs.Writing.{worded_line, numbered_line, has_room, front_room, worded_room, numbered_room, index_after, output_after, Wrote};
 
+// The output and the index go side by side: a struct that holds a lent output has each function promise besides that it is the same one, and so
+// no equation of the whole, and one that owns its bytes copies 2,048 of them in and out for each piece.
 fn put(text: &[u8], at: usize, out: &mut [u8]) -> usize
     requires { at + length text.now ≤ length out.old }
     ensures { Wrote at text.now out.old out.new result }
 {
-    let mut i = 0;
-    while i < text.len() {
-        out[at + i] = text[i];
-        i += 1;
-    }
-    at + i
+    let end = at + text.len();
+    out[at..end].copy_from_slice(text);
+    end
 }
 
+// The listing's own definition of a digit: the numbers go into lent bytes, without a formatter.
 fn digit(n: usize) -> u8
     ensures { result ≡ Rattle.listing_rules.specs.Text.digit n }
 {
-    48 + (n % 10) as u8
+    b'0' + (n % 10) as u8
 }
 
 fn five_digits(n: usize) -> [u8; 5]
@@ -38,21 +38,16 @@ fn five_digits(n: usize) -> [u8; 5]
 fn leading_zeros(n: usize) -> usize
     ensures { result ≡ leading_zeros n }
 {
-    if n < 10 {
-        return 4;
+    match n {
+        0..=9 => 4,
+        10..=99 => 3,
+        100..=999 => 2,
+        1000..=9999 => 1,
+        _ => 0,
     }
-    if n < 100 {
-        return 3;
-    }
-    if n < 1000 {
-        return 2;
-    }
-    if n < 10000 {
-        return 1;
-    }
-    0
 }
 
+#[tactic(auto, using(crate::proofs::Decimal::decimal_part))]
 fn put_number(n: usize, at: usize, out: &mut [u8]) -> usize
     requires { at + 5 ≤ length out.old }
     ensures { Wrote at (decimal n) out.old out.new result }
@@ -67,14 +62,7 @@ fn has_room(at: usize, length: usize, more: usize) -> bool
     requires { more ≤ 2048 }
     ensures { result ≡ has_room at (length + more) }
 {
-    let limit = 2048 - more;
-    if limit < length {
-        return false;
-    }
-    if limit - length < at {
-        return false;
-    }
-    true
+    length <= 2048 - more && at <= 2048 - more - length
 }
 
 // A text at the front.
@@ -89,6 +77,7 @@ pub fn put_front(text: &[u8], out: &mut [u8; 2048]) -> usize
 }
 
 // A line that ends in words: the place, then the words with the space before them and the line feed.
+#[tactic(auto, using(crate::proofs::Decimal::decimal_short))]
 pub fn put_worded(place: usize, words: &[u8], at: usize, out: &mut [u8; 2048]) -> usize
     ensures { (result ≡ index_after (worded_room at words.now) at (worded_line place words.now))
         × (out.new ≡ output_after (worded_room at words.now) at (worded_line place words.now) out.old) }
@@ -101,6 +90,7 @@ pub fn put_worded(place: usize, words: &[u8], at: usize, out: &mut [u8; 2048]) -
 }
 
 // A line that ends in a number: the place, the words with the spaces about them, the number.
+#[tactic(auto, using(crate::proofs::Decimal::decimal_short))]
 pub fn put_numbered(place: usize, words: &[u8], n: usize, at: usize, out: &mut [u8; 2048]) -> usize
     ensures { (result ≡ index_after (numbered_room at words.now) at (numbered_line place words.now n))
         × (out.new ≡ output_after (numbered_room at words.now) at (numbered_line place words.now n) out.old) }

@@ -5,22 +5,21 @@ ghost use Rattle.std.specs.Prelude.{◌≡◌};
 ghost use Rattle.packet_rules.specs.Violations.{right_crc};
 ghost use Rattle.packet_ends.specs.Ends.{end_of};
 
-use packet_rules::{DataPacket, Event, PriorityPacket};
+use packet_rules::{Event, Reader, Violation};
 
 fn is_right_crc(register: u16, a: u8, b: u8) -> bool
     ensures { result ≡ right_crc register a b }
 {
-    let check = crc::check_bytes(register);
-    if a == check[0] { b == check[1] } else { false }
+    crc::check_bytes(register) == [a, b]
 }
 
 // The CRC's bytes are a and b.
-pub fn end_event(d: DataPacket, p: PriorityPacket, bad: bool, a: u8, b: u8) -> Event
-    ensures { result ≡ end_of d p bad a b }
+pub fn end_event(r: Reader, bad: bool, a: u8, b: u8) -> Event
+    ensures { result ≡ end_of r.packet r.priority bad a b }
 {
-    if is_right_crc(packet_open::register_in(d, p), a, b) {
+    if is_right_crc(packet_open::register_in(r), a, b) {
         Event::End { bad }
     } else {
-        Event::Violation(6)
+        Event::Violation(Violation::Crc)
     }
 }

@@ -4,61 +4,51 @@
 ghost use Rattle.std.specs.Prelude.{◌≡◌};
 ghost use Rattle.packet_rules.specs.State.{no_priority, outside, has_byte, opening_byte, register_in};
 
-use packet_rules::{DataPacket, PriorityPacket};
+use packet_rules::Reader;
 
-pub fn is_outside(d: DataPacket, p: PriorityPacket) -> bool
-    ensures { result ≡ outside d p }
+// No packet is open.
+pub fn is_outside(r: Reader) -> bool
+    ensures { result ≡ outside r.packet r.priority }
 {
-    match p {
-        PriorityPacket::InPriority { .. } => false,
-        PriorityPacket::NoPriority => match d {
-            DataPacket::InData { .. } => false,
-            DataPacket::NoData => true,
-        },
+    r.packet.is_none() && r.priority.is_none()
+}
+
+// No priority packet is open.
+pub fn has_no_priority(r: Reader) -> bool
+    ensures { result ≡ no_priority r.priority }
+{
+    r.priority.is_none()
+}
+
+// The packet that takes the bytes has one.
+pub fn has_byte(r: Reader) -> bool
+    ensures { result ≡ has_byte r.packet r.priority }
+{
+    match (r.packet, r.priority) {
+        (_, Some(inner)) => 0 < inner.count,
+        (Some(outer), None) => outer.begun,
+        (None, None) => false,
     }
 }
 
-pub fn has_no_priority(p: PriorityPacket) -> bool
-    ensures { result ≡ no_priority p }
+// The byte after its start symbol.
+pub fn opening_byte(r: Reader) -> u8
+    ensures { result ≡ opening_byte r.packet r.priority }
 {
-    match p {
-        PriorityPacket::InPriority { .. } => false,
-        PriorityPacket::NoPriority => true,
+    match (r.packet, r.priority) {
+        (_, Some(inner)) => inner.opening,
+        (Some(outer), None) => outer.channel,
+        (None, None) => 0,
     }
 }
 
-pub fn has_byte(d: DataPacket, p: PriorityPacket) -> bool
-    ensures { result ≡ has_byte d p }
+// The CRC register over its bytes.
+pub fn register_in(r: Reader) -> u16
+    ensures { result ≡ register_in r.packet r.priority }
 {
-    match p {
-        PriorityPacket::InPriority { count, .. } => 0 < count,
-        PriorityPacket::NoPriority => match d {
-            DataPacket::InData { begun, .. } => begun,
-            DataPacket::NoData => false,
-        },
-    }
-}
-
-pub fn opening_byte(d: DataPacket, p: PriorityPacket) -> u8
-    ensures { result ≡ opening_byte d p }
-{
-    match p {
-        PriorityPacket::InPriority { opening, .. } => opening,
-        PriorityPacket::NoPriority => match d {
-            DataPacket::InData { channel, .. } => channel,
-            DataPacket::NoData => 0,
-        },
-    }
-}
-
-pub fn register_in(d: DataPacket, p: PriorityPacket) -> u16
-    ensures { result ≡ register_in d p }
-{
-    match p {
-        PriorityPacket::InPriority { register, .. } => register,
-        PriorityPacket::NoPriority => match d {
-            DataPacket::InData { register, .. } => register,
-            DataPacket::NoData => crc::start(),
-        },
+    match (r.packet, r.priority) {
+        (_, Some(inner)) => inner.register,
+        (Some(outer), None) => outer.register,
+        (None, None) => crc::start(),
     }
 }

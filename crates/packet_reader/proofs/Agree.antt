@@ -10,34 +10,34 @@ use lib.IntN.{ℤ}
 use Rattle.symbol.specs.Symbols.{is_symbol}
 use Rattle.symbol.specs.declared.Symbol.{Symbol}
 use Rattle.character_rules.specs.declared.Decoded.{Decoded}
-use Rattle.character_rules.specs.declared.Decoded.TheVariants.{Clean, WrongDisparity, Invalid, Refused as NotRead}
-use Rattle.character_rules.specs.Answers.{reading_says, clean, wrong_disparity, invalid}
+use Rattle.character_rules.specs.declared.Decoded.TheVariants.{Clean, WrongDisparity, Invalid}
+use Rattle.character_rules.specs.Answers.{decoded_says, reading_says, clean, wrong_disparity, invalid}
+use Rattle.std.specs.Prelude.{Some, None, Result, Ok, Err}
+use Rattle.refusal.specs.declared.Refusal.{Refusal}
+use Rattle.packet_rules.specs.Open.{OpenData, OpenPriority}
 use Rattle.packet_rules.specs.declared.Opener.{Opener}
 use Rattle.packet_rules.specs.declared.Opener.TheVariants.{Sdp, Spp, Slp}
 use Rattle.packet_rules.specs.declared.Kind.{Kind}
 use Rattle.packet_rules.specs.declared.Kind.TheVariants.{Data, Idl, Com, Opens, Closes, NoPlace, Unsupported}
-use Rattle.packet_rules.specs.declared.DataPacket.{DataPacket}
-use Rattle.packet_rules.specs.declared.DataPacket.TheVariants.{NoData, InData}
-use Rattle.packet_rules.specs.declared.PriorityPacket.{PriorityPacket}
-use Rattle.packet_rules.specs.declared.PriorityPacket.TheVariants.{NoPriority, InPriority}
 use Rattle.packet_rules.specs.declared.Due.{Due}
 use Rattle.packet_rules.specs.declared.Due.TheVariants.{Channel, Opening, Closing, FirstCrc, SecondCrc, LmpType, LmpNumber, LmpCheck}
 use Rattle.packet_rules.specs.declared.Phase.{Phase}
 use Rattle.packet_rules.specs.declared.Phase.TheVariants.{Free, Next, Idles, Dropping}
 use Rattle.packet_rules.specs.declared.Reader.{Reader}
 use Rattle.packet_rules.specs.declared.Step.{Step}
-use Rattle.packet_rules.specs.Answers.{Said, event_says, step_says}
+use Rattle.packet_rules.specs.declared.Violation.TheVariants.{Invalid as NoCharacter, WrongDisparity as OtherDisparity}
+use Rattle.packet_rules.specs.Answers.{Said, Answer, event_says, answer_says, step_says}
 use Rattle.packet_rules.specs.State.{outside, has_byte, opening_byte, register_in, well_formed}
 use Rattle.packet_rules.specs.Symbols.{kind_of}
 use Rattle.packet_rules.specs.Violations.{right_crc, violation_of}
-use Rattle.packet_rules.specs.Step.{lmp_said, broken, dropped, read_of, step_of}
+use Rattle.packet_rules.specs.Step.{lmp_said, broken, dropped, read_of, refused_step, step_of}
 use Rattle.packet_rules.specs.Line.{is_reply}
 use Rattle.packet_rules.proofs.Steps.{st}
 use Rattle.packet_rules.proofs.Legal.{reply_said, other_said}
 use Rattle.packet_turns.specs.Turns.{may_start, free_of}
 use Rattle.packet_sequences.specs.Sequences.{lmp_of, due_of, seq_of}
 use Rattle.packet_idles.specs.Idles.{idle_of, drop_of}
-use Rattle.packet_reader.specs.Classes.{class_of, clean_of, spoiled_of, refused_to, advance_of}
+use Rattle.packet_reader.specs.Classes.{class_of, clean_of, spoiled_of, advance_of, event_of, reader_of, tried_of, answered}
 
 -- ---- what a right LMP gives
 
@@ -55,7 +55,7 @@ lmp_agrees t n = by (ltb n 16) (eqb t 0x20) (eqb t 0x21) refl refl refl
     by true false true e f g = simp (e, f, g) (sym (ap (λ (x : ℕ). lmp_said x n) (eqb-true t 0x21 g) ∙ reply_said true n (ltb-true n 16 e)))
     by true false false e f g = simp (e, f, g) (sym (other_said t n (simp (f, g))))
 
-module _ (s : ℕ) (d : DataPacket) (p : PriorityPacket) (x : Symbol) (e : ℤ) where
+module _ (s : ℕ) (d : OpenData) (p : OpenPriority) (x : Symbol) (e : ℤ) where
   abbrev Agrees : Phase → Kind → Step → Type 0
   Agrees w k a = step_says a ≡ read_of (st s d p w) (clean x e) k
 
@@ -109,14 +109,14 @@ module _ (s : ℕ) (d : DataPacket) (p : PriorityPacket) (x : Symbol) (e : ℤ) 
 
   -- ---- a result that is not clean
 
-  wrongs : (w : Phase) (k : Kind) → step_says (spoiled_of 2 w (st s d p w)) ≡ read_of (st s d p w) (wrong_disparity x e) k
+  wrongs : (w : Phase) (k : Kind) → step_says (spoiled_of OtherDisparity w (st s d p w)) ≡ read_of (st s d p w) (wrong_disparity x e) k
   unfolding read_of violation_of broken dropped
   wrongs Free k = refl
   wrongs (Next due) k = refl
   wrongs (Idles n) k = refl
   wrongs Dropping k = refl
 
-  invalids : (w : Phase) → step_says (spoiled_of 1 w (st s d p w)) ≡ read_of (st s d p w) (invalid e) NoPlace
+  invalids : (w : Phase) → step_says (spoiled_of NoCharacter w (st s d p w)) ≡ read_of (st s d p w) (invalid e) NoPlace
   unfolding read_of violation_of broken dropped
   invalids Free = refl
   invalids (Next due) = refl
@@ -125,30 +125,30 @@ module _ (s : ℕ) (d : DataPacket) (p : PriorityPacket) (x : Symbol) (e : ℤ) 
 
 module _ (s : ℕ) (x : Symbol) (e : ℤ) where
   -- a byte goes to the packet it belongs to
-  bytes : (d : DataPacket) (p : PriorityPacket) (b : ℕ) → Agrees s d p x e Free (Data b) (free_of (Data b) (st s d p Free))
+  bytes : (d : OpenData) (p : OpenPriority) (b : ℕ) → Agrees s d p x e Free (Data b) (free_of (Data b) (st s d p Free))
   unfolding free_of read_of violation_of broken
-  bytes d (InPriority o n c) b = by (leb s n) refl
+  bytes d (Some inner) b = by (leb s inner.count) refl
     where
-      by : (t : Bool) → leb s n ≡ t → Agrees s d (InPriority o n c) x e Free (Data b) (free_of (Data b) (st s d (InPriority o n c) Free))
+      by : (t : Bool) → leb s inner.count ≡ t → Agrees s d (Some inner) x e Free (Data b) (free_of (Data b) (st s d (Some inner) Free))
       by true h = simp h
       by false h = simp h
-  bytes (InData h y c) NoPriority b = refl
-  bytes NoData NoPriority b = by (eqb b 0) refl
+  bytes (Some outer) None b = refl
+  bytes None None b = by (eqb b 0) refl
     where
-      by : (t : Bool) → eqb b 0 ≡ t → Agrees s NoData NoPriority x e Free (Data b) (free_of (Data b) (st s NoData NoPriority Free))
+      by : (t : Bool) → eqb b 0 ≡ t → Agrees s None None x e Free (Data b) (free_of (Data b) (st s None None Free))
       by true h = simp h
       by false h = simp h
 
   -- and so do an end and its CRC
-  crcs : (d : DataPacket) (p : PriorityPacket) (bad : Bool) (a b : ℕ) (t : Bool) → right_crc (register_in d p) a b ≡ t
+  crcs : (d : OpenData) (p : OpenPriority) (bad : Bool) (a b : ℕ) (t : Bool) → right_crc (register_in d p) a b ≡ t
       → Agrees s d p x e (Next (SecondCrc bad a)) (Data b) (due_of (SecondCrc bad a) b (st s d p (Next (SecondCrc bad a))))
   unfolding due_of read_of violation_of broken
-  crcs d (InPriority o n c) bad a b true h = simp h
-  crcs d (InPriority o n c) bad a b false h = simp h
-  crcs d NoPriority bad a b true h = simp h
-  crcs d NoPriority bad a b false h = simp h
+  crcs d (Some inner) bad a b true h = simp h
+  crcs d (Some inner) bad a b false h = simp h
+  crcs d None bad a b true h = simp h
+  crcs d None bad a b false h = simp h
 
-  module _ (d : DataPacket) (p : PriorityPacket) where
+  module _ (d : OpenData) (p : OpenPriority) where
     frees : (k : Kind) → Agrees s d p x e Free k (free_of k (st s d p Free))
     unfolding free_of read_of violation_of broken
     frees (Data b) = bytes d p b
@@ -188,33 +188,49 @@ module _ (s : ℕ) (x : Symbol) (e : ℤ) where
     cleans Dropping k = drops s d p x e k
 
 -- THE LAW: in a state that keeps the rule
-pub agree : (r : Reader) (g : Decoded) → well_formed r ≡ true → step_says (advance_of r g) ≡ step_of r (reading_says g)
+pub agree : (r : Reader) (g : Result Decoded Refusal) → well_formed r ≡ true → answered r (tried_of r g) ≡ step_of r (reading_says g)
 unfolding advance_of step_of class_of
-agree r (Clean x e) ok = by (is_symbol x) refl
+agree r (Ok (Clean x e)) ok = by (is_symbol x) refl
   where
-    by : (t : Bool) → is_symbol x ≡ t → step_says (advance_of r (Clean x e)) ≡ step_of r (reading_says (Clean x e))
+    by : (t : Bool) → is_symbol x ≡ t → answered r (advance_of r (Clean x e)) ≡ step_of r (decoded_says (Clean x e))
     by true h = simp (ok, h) (cleans r.size x e r.packet r.priority r.phase (kind_of x))
     by false h = simp (ok, h)
-agree r (WrongDisparity x e) ok = by (is_symbol x) refl
+agree r (Ok (WrongDisparity x e)) ok = by (is_symbol x) refl
   where
-    by : (t : Bool) → is_symbol x ≡ t → step_says (advance_of r (WrongDisparity x e)) ≡ step_of r (reading_says (WrongDisparity x e))
+    by : (t : Bool) → is_symbol x ≡ t → answered r (advance_of r (WrongDisparity x e)) ≡ step_of r (decoded_says (WrongDisparity x e))
     by true h = simp (ok, h) (wrongs r.size r.packet r.priority x e r.phase (kind_of x))
     by false h = simp (ok, h)
-agree r (Invalid e) ok = simp ok (invalids r.size r.packet r.priority (record { byte = 0; control = false }) e r.phase)
-agree r (NotRead n) ok = refl
+agree r (Ok (Invalid e)) ok = simp ok (invalids r.size r.packet r.priority (record { byte = 0; control = false }) e r.phase)
+agree r (Err n) ok = refl
 
 -- a state that breaks the rule is refused
-pub ill_formed : (r : Reader) (g : Decoded) → well_formed r ≡ false → step_says (refused_to 1 r) ≡ step_of r (reading_says g)
+pub ill_formed : (r : Reader) (g : Result Decoded Refusal) → well_formed r ≡ false → refused_step r 1 ≡ step_of r (reading_says g)
 unfolding step_of
-ill_formed r (Clean x e) h = by (is_symbol x) refl
+ill_formed r (Ok (Clean x e)) h = by (is_symbol x) refl
   where
-    by : (t : Bool) → is_symbol x ≡ t → step_says (refused_to 1 r) ≡ step_of r (reading_says (Clean x e))
+    by : (t : Bool) → is_symbol x ≡ t → refused_step r 1 ≡ step_of r (decoded_says (Clean x e))
     by true q = simp (h, q)
     by false q = simp q
-ill_formed r (WrongDisparity x e) h = by (is_symbol x) refl
+ill_formed r (Ok (WrongDisparity x e)) h = by (is_symbol x) refl
   where
-    by : (t : Bool) → is_symbol x ≡ t → step_says (refused_to 1 r) ≡ step_of r (reading_says (WrongDisparity x e))
+    by : (t : Bool) → is_symbol x ≡ t → refused_step r 1 ≡ step_of r (decoded_says (WrongDisparity x e))
     by true q = simp (h, q)
     by false q = simp q
-ill_formed r (Invalid e) h = simp h
-ill_formed r (NotRead n) h = refl
+ill_formed r (Ok (Invalid e)) h = simp h
+ill_formed r (Err n) h = refl
+
+-- ---- what a call gives and what it leaves are the two parts of the answer
+
+said_is : (r : Reader) (a : Result Step Refusal) → answer_says (event_of a) ≡ (answered r a).said
+said_is r (Ok s) = refl
+said_is r (Err e) = refl
+
+left_is : (r : Reader) (a : Result Step Refusal) → reader_of r a ≡ (answered r a).reader
+left_is r (Ok s) = refl
+left_is r (Err e) = refl
+
+pub says_step : (r : Reader) (g : Result Decoded Refusal) → well_formed r ≡ true → answer_says (event_of (tried_of r g)) ≡ (step_of r (reading_says g)).said
+says_step r g ok = said_is r (tried_of r g) ∙ ap (λ (a : Answer). a.said) (agree r g ok)
+
+pub leaves_step : (r : Reader) (g : Result Decoded Refusal) → well_formed r ≡ true → reader_of r (tried_of r g) ≡ (step_of r (reading_says g)).reader
+leaves_step r g ok = left_is r (tried_of r g) ∙ ap (λ (a : Answer). a.reader) (agree r g ok)

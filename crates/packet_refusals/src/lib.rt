@@ -1,78 +1,70 @@
-// Which number writing a packet is refused with, and 0 where it is not refused.
+// Which refusal writing a packet is answered with, if any.
 #![tactic(auto)]
 
 ghost use Rattle.std.specs.Prelude.{◌≡◌, false};
-ghost use Rattle.refusal.specs.Order.{refusal_of};
+ghost use Rattle.refusal.specs.Order.{refusal_of, refusal_says};
 ghost use Rattle.packet_rules.specs.Packets.{in_data, in_priority, retry, packet_checks};
 
+use disparity::is_disparity;
+use refusal::Refusal;
+use segment_size::size_is_allowed;
+
 // A data packet, into an output of so many characters. S plays no part in it.
-pub fn data_refusal(channel: u32, bytes: &[u8], disparity: i32, room: usize) -> u8
-    ensures { result ≡ refusal_of (packet_checks 0 (in_data channel bytes.now false) disparity room) }
+pub fn may_write_data(
+    channel: u32,
+    bytes: &[u8],
+    disparity: i32,
+    room: usize,
+) -> Result<(), Refusal>
+    ensures { refusal_says result ≡ refusal_of (packet_checks 0 (in_data channel bytes.now false) disparity room) }
 {
-    if !disparity::is_disparity(disparity) {
-        return refusal::OUT_OF_RANGE;
+    if !is_disparity(disparity) || 255 < channel {
+        return Err(Refusal::OutOfRange);
     }
-    if 255 < channel {
-        return refusal::OUT_OF_RANGE;
+    if bytes.is_empty() {
+        return Err(Refusal::NoBytes);
     }
-    let n = bytes.len();
-    if n == 0 {
-        return refusal::NO_BYTES;
+    if room < bytes.len() + 6 {
+        return Err(Refusal::ShortOutput);
     }
-    if room < n + 6 {
-        return refusal::SHORT_OUTPUT;
-    }
-    0
+    Ok(())
 }
 
 // A priority packet, for segments of S bytes.
-pub fn priority_refusal(
+pub fn may_write_priority(
     size: u32,
     channel: u32,
     segment: u32,
     bytes: &[u8],
     disparity: i32,
     room: usize,
-) -> u8
-    ensures { result ≡ refusal_of (packet_checks size (in_priority channel segment bytes.now false) disparity room) }
+) -> Result<(), Refusal>
+    ensures { refusal_says result ≡ refusal_of (packet_checks size (in_priority channel segment bytes.now false) disparity room) }
 {
-    if !disparity::is_disparity(disparity) {
-        return refusal::OUT_OF_RANGE;
+    if !is_disparity(disparity) || 15 < channel || 15 < segment {
+        return Err(Refusal::OutOfRange);
     }
-    if 15 < channel {
-        return refusal::OUT_OF_RANGE;
+    if !size_is_allowed(size) || (size as usize) < bytes.len() {
+        return Err(Refusal::SegmentSize);
     }
-    if 15 < segment {
-        return refusal::OUT_OF_RANGE;
+    if bytes.is_empty() {
+        return Err(Refusal::NoBytes);
     }
-    if !segment_size::size_is_allowed(size) {
-        return refusal::SEGMENT_SIZE;
+    if room < bytes.len() + 6 {
+        return Err(Refusal::ShortOutput);
     }
-    let n = bytes.len();
-    if (size as usize) < n {
-        return refusal::SEGMENT_SIZE;
-    }
-    if n == 0 {
-        return refusal::NO_BYTES;
-    }
-    if room < n + 6 {
-        return refusal::SHORT_OUTPUT;
-    }
-    0
+    Ok(())
 }
 
 // A retry LMP.
-pub fn lmp_refusal(number: u32, disparity: i32, room: usize) -> u8
-    ensures { result ≡ refusal_of (packet_checks 0 (retry false number) disparity room) }
+pub fn may_write_lmp(number: u32, disparity: i32, room: usize) -> Result<(), Refusal>
+    ensures { refusal_says result ≡ refusal_of (packet_checks 0 (retry false number) disparity room) }
 {
-    if !disparity::is_disparity(disparity) {
-        return refusal::OUT_OF_RANGE;
-    }
-    if 15 < number {
-        return refusal::OUT_OF_RANGE;
+    if !is_disparity(disparity) || 15 < number {
+        return Err(Refusal::OutOfRange);
     }
     if room < 4 {
-        return refusal::SHORT_OUTPUT;
+        return Err(Refusal::ShortOutput);
     }
-    0
+    Ok(())
 }

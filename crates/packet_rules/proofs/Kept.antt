@@ -13,10 +13,8 @@ use Rattle.crc.specs.Crc16.{crc_start, crc_byte}
 use Rattle.packet_rules.specs.declared.Opener.TheVariants.{Sdp, Spp, Slp}
 use Rattle.packet_rules.specs.declared.Kind.{Kind}
 use Rattle.packet_rules.specs.declared.Kind.TheVariants.{Data, Idl, Com, Opens, Closes, NoPlace, Unsupported}
-use Rattle.packet_rules.specs.declared.DataPacket.{DataPacket}
-use Rattle.packet_rules.specs.declared.DataPacket.TheVariants.{NoData, InData}
-use Rattle.packet_rules.specs.declared.PriorityPacket.{PriorityPacket}
-use Rattle.packet_rules.specs.declared.PriorityPacket.TheVariants.{NoPriority, InPriority}
+use Rattle.packet_rules.specs.Open.{OpenData, OpenPriority, open_data, open_priority}
+use Rattle.std.specs.Prelude.{Some, None}
 use Rattle.packet_rules.specs.declared.Due.{Due}
 use Rattle.packet_rules.specs.declared.Due.TheVariants.{Channel, Opening, Closing, FirstCrc, SecondCrc, LmpType, LmpNumber, LmpCheck}
 use Rattle.packet_rules.specs.declared.Phase.{Phase}
@@ -30,42 +28,42 @@ use Rattle.packet_rules.specs.Step.{answer, user_byte, free_move, closes_own, du
 use Rattle.packet_rules.proofs.Choice.{either, by_outcome}
 use Rattle.packet_rules.proofs.Lowest.{NoneOf, lowest_none}
 
-abbrev st : ℕ → DataPacket → PriorityPacket → Phase → Reader
+abbrev st : ℕ → OpenData → OpenPriority → Phase → Reader
 st s d p w = record { size = s; packet = d; priority = p; phase = w }
 
 abbrev pub Keeps : Answer → Type 0
 Keeps a = well_formed a.reader ≡ true
 
 module _ (s : ℕ) (ok : size_allowed s ≡ true) where
-  keep : (d : DataPacket) (p : PriorityPacket) (w : Phase) → data_rule d ≡ true → priority_rule s p ≡ true → phase_rule d p w ≡ true
+  keep : (d : OpenData) (p : OpenPriority) (w : Phase) → data_rule d ≡ true → priority_rule s p ≡ true → phase_rule d p w ≡ true
       → well_formed (st s d p w) ≡ true
   unfolding well_formed
   keep d p w a b c = simp (ok, a, b, c)
 
-  started_data_lem : (b : ℕ) → data_rule (InData b false crc_start) ≡ true
+  started_data_lem : (b : ℕ) → data_rule (open_data b false crc_start) ≡ true
   started_data_lem b = eq-eqb crc_start crc_start refl
 
-  started_priority_lem : (b : ℕ) → priority_rule s (InPriority b 0 crc_start) ≡ true
+  started_priority_lem : (b : ℕ) → priority_rule s (open_priority b 0 crc_start) ≡ true
   started_priority_lem b = simp (le-leb 0 s (omega arith), eq-eqb crc_start crc_start refl)
 
-  module _ (d : DataPacket) (p : PriorityPacket) (dr : data_rule d ≡ true) (pr : priority_rule s p ≡ true) where
+  module _ (d : OpenData) (p : OpenPriority) (dr : data_rule d ≡ true) (pr : priority_rule s p ≡ true) where
     -- what closes the own packet, or all
     own : (said : Said) (w : Phase) → Keeps (closes_own said p (st s d p w))
     own said w = go p
       where
-        go : (q : PriorityPacket) → Keeps (closes_own said q (st s d p w))
-        go NoPriority = keep NoData NoPriority Free refl refl refl
-        go (InPriority o n c) = keep d NoPriority Free dr refl refl
+        go : (q : OpenPriority) → Keeps (closes_own said q (st s d p w))
+        go None = keep None None Free refl refl refl
+        go (Some inner) = keep d None Free dr refl refl
 
     break : (n : ℕ) (w : Phase) → Keeps (broken n (st s d p w))
     unfolding broken
     break n w =
         either Keeps (eqb n 7) _ _ (λ e. keep d p Free dr pr refl)
-        (λ e. either Keeps (eqb n 6) _ _ (λ f. own (violated n) w) (λ f. keep NoData NoPriority Dropping refl refl refl))
+        (λ e. either Keeps (eqb n 6) _ _ (λ f. own (violated n) w) (λ f. keep None None Dropping refl refl refl))
 
     due : (x : Due) (b : ℕ) (w : Phase) → due_rule d p x ≡ true → Keeps (due_move x b (st s d p w))
-    due Channel b w h = keep (InData b false crc_start) p Free (started_data_lem b) pr refl
-    due Opening b w h = keep d (InPriority b 0 crc_start) Free dr (started_priority_lem b) refl
+    due Channel b w h = keep (open_data b false crc_start) p Free (started_data_lem b) pr refl
+    due Opening b w h = keep d (open_priority b 0 crc_start) Free dr (started_priority_lem b) refl
     due (Closing bad) b w h = keep d p (Next (FirstCrc bad)) dr pr h
     due (FirstCrc bad) b w h = keep d p (Next (SecondCrc bad b)) dr pr h
     due (SecondCrc bad a) b w h = own (ended bad) w
@@ -78,15 +76,15 @@ module _ (s : ℕ) (ok : size_allowed s ≡ true) where
         either (λ (w : Phase). phase_rule d p w ≡ true) (leb n 1) Free (Idles (n - 1)) (λ e. refl)
         (λ e. simp (lt-ltb 0 (n - 1) (omega (arith, leb-false n 1 e)), le-leb (n - 1) 3 (omega (arith, leb-true n 3 (second_true (ltb 0 n) (leb n 3) h)))))
 
-  user : (d : DataPacket) (p : PriorityPacket) (b : ℕ) (w : Phase) → data_rule d ≡ true → priority_rule s p ≡ true → is_full s p ≡ false
+  user : (d : OpenData) (p : OpenPriority) (b : ℕ) (w : Phase) → data_rule d ≡ true → priority_rule s p ≡ true → is_full s p ≡ false
       → Keeps (user_byte d p b (st s d p w))
-  user d (InPriority o n c) b w dr pr h =
-      keep d (InPriority o (n + 1) (crc_byte c b)) Free dr
-      (simp (le-leb (n + 1) s (omega (arith, leb-false s n h)), lt-ltb 0 (n + 1) (omega arith))) refl
-  user (InData x y c) NoPriority b w dr pr h = keep (InData x true (crc_byte c b)) NoPriority Free refl refl refl
-  user NoData NoPriority b w dr pr h = keep NoData NoPriority Free refl refl refl
+  user d (Some inner) b w dr pr h =
+      keep d (open_priority inner.opening (inner.count + 1) (crc_byte inner.register b)) Free dr
+      (simp (le-leb (inner.count + 1) s (omega (arith, leb-false s inner.count h)), lt-ltb 0 (inner.count + 1) (omega arith))) refl
+  user (Some outer) None b w dr pr h = keep (open_data outer.channel true (crc_byte outer.register b)) None Free refl refl refl
+  user None None b w dr pr h = keep None None Free refl refl refl
 
-  module _ (d : DataPacket) (p : PriorityPacket) (dr : data_rule d ≡ true) (pr : priority_rule s p ≡ true) where
+  module _ (d : OpenData) (p : OpenPriority) (dr : data_rule d ≡ true) (pr : priority_rule s p ≡ true) where
     free : (k : Kind) → NoneOf (conditions (st s d p Free) k) → Keeps (free_move k (st s d p Free))
     free (Data b) h = user d p b Free dr pr h.1.1.1.1.1.1.1.0
     free Idl h = keep d p Free dr pr refl
@@ -120,9 +118,9 @@ module _ (s : ℕ) (ok : size_allowed s ≡ true) where
     awake (Opens Sdp) h = h
     awake (Opens Spp) h = go p h
       where
-        go : (q : PriorityPacket) → outside d q ≡ true → no_priority q ≡ true
-        go NoPriority e = refl
-        go (InPriority o n c) e = e
+        go : (q : OpenPriority) → outside d q ≡ true → no_priority q ≡ true
+        go None e = refl
+        go (Some inner) e = e
     awake (Opens Slp) h = refl
     awake (Closes bad) h = h
     awake NoPlace h = h
@@ -157,4 +155,4 @@ kept r g h =
     (second_true p w pw))
 
 pub fresh_kept : (s : ℕ) → size_allowed s ≡ true → well_formed (fresh s) ≡ true
-fresh_kept s ok = keep s ok NoData NoPriority Free refl refl refl
+fresh_kept s ok = keep s ok None None Free refl refl refl

@@ -16,10 +16,8 @@ use Rattle.laws.proofs.Cases.{first_true, second_true}
 use Rattle.character_rules.specs.Answers.{Reading}
 use Rattle.crc.specs.Crc16.{crc_start, crc_from, check_bytes_of, crc_of}
 use Rattle.crc.proofs.Laws.{start_value, check_bytes_lem}
-use Rattle.packet_rules.specs.declared.DataPacket.{DataPacket}
-use Rattle.packet_rules.specs.declared.DataPacket.TheVariants.{NoData, InData}
-use Rattle.packet_rules.specs.declared.PriorityPacket.{PriorityPacket}
-use Rattle.packet_rules.specs.declared.PriorityPacket.TheVariants.{NoPriority, InPriority}
+use Rattle.packet_rules.specs.Open.{OpenData, OpenPriority, open_data, open_priority}
+use Rattle.std.specs.Prelude.{Some, None}
 use Rattle.packet_rules.specs.declared.Due.TheVariants.{Channel, Opening, Closing, FirstCrc, SecondCrc, LmpType, LmpNumber, LmpCheck}
 use Rattle.packet_rules.specs.declared.Phase.{Phase}
 use Rattle.packet_rules.specs.declared.Phase.TheVariants.{Free, Next, Idles}
@@ -70,28 +68,28 @@ other_said t n h = by (eqb (t / 16) 2 && (ltb (t % 16) 2 && eqb (n / 16) 0)) ref
 -- ---- the closing of a packet, of either kind
 
 -- the state after an end: the packet to which it belongs is closed
-abbrev pub closed : ℕ → DataPacket → PriorityPacket → Reader
-closed s d (InPriority o n c) = st s d NoPriority Free
-closed s d NoPriority = st s NoData NoPriority Free
+abbrev pub closed : ℕ → OpenData → OpenPriority → Reader
+closed s d (Some inner) = st s d None Free
+closed s d None = st s None None Free
 
-own_closed : (s : ℕ) (d : DataPacket) (p : PriorityPacket) (w : Phase) (said : Said) → closes_own said p (st s d p w) ≡ gives said (closed s d p)
-own_closed s d (InPriority o n c) w said = refl
-own_closed s d NoPriority w said = refl
+own_closed : (s : ℕ) (d : OpenData) (p : OpenPriority) (w : Phase) (said : Said) → closes_own said p (st s d p w) ≡ gives said (closed s d p)
+own_closed s d (Some inner) w said = refl
+own_closed s d None w said = refl
 
-closed_after : (s : ℕ) (d : DataPacket) (p : PriorityPacket) (bs : List ℕ) → closed s (data_after d p bs) (priority_after p bs) ≡ closed s d p
+closed_after : (s : ℕ) (d : OpenData) (p : OpenPriority) (bs : List ℕ) → closed s (data_after d p bs) (priority_after p bs) ≡ closed s d p
 closed_after s d p [] = refl
-closed_after s d (InPriority o n c) (b ∷ bs) = closed_after s d (fed_priority (InPriority o n c) b) bs
-closed_after s (InData h x c) NoPriority (b ∷ bs) = closed_after s (fed_data (InData h x c) NoPriority b) NoPriority bs
-closed_after s NoData NoPriority (b ∷ bs) = closed_after s NoData NoPriority bs
+closed_after s d (Some inner) (b ∷ bs) = closed_after s d (fed_priority (Some inner) b) bs
+closed_after s (Some outer) None (b ∷ bs) = closed_after s (fed_data (Some outer) None b) None bs
+closed_after s None None (b ∷ bs) = closed_after s None None bs
 
 module _ (s : ℕ) where
-  abbrev Ok : DataPacket → PriorityPacket → Phase → Type 0
+  abbrev Ok : OpenData → OpenPriority → Phase → Type 0
   Ok d p w = well_formed (st s d p w) ≡ true
 
-  abbrev at : DataPacket → PriorityPacket → Phase → Reader
+  abbrev at : OpenData → OpenPriority → Phase → Reader
   at d p w = st s d p w
 
-  closes : (d : DataPacket) (p : PriorityPacket) (bad : Bool) (cs : List ℕ) → outside d p ≡ false → has_byte d p ≡ true → Ok d p Free
+  closes : (d : OpenData) (p : OpenPriority) (bad : Bool) (cs : List ℕ) → outside d p ≡ false → has_byte d p ≡ true → Ok d p Free
       → cs ≡ check_bytes_of (register_in d p)
       → Runs (at d p Free) (end_symbol bad ∷ data_symbol (opening_byte d p) ∷ map data_symbol cs) (closing_said bad) (closed s d p)
   closes d p bad cs o h ok q =
@@ -111,7 +109,7 @@ module _ (s : ℕ) where
 
   -- ---- what may stand among a packet's bytes, and outside
 
-  lmp : (d : DataPacket) (p : PriorityPacket) (t n : ℕ) (said : Said) → lmp_said t n ≡ said → Ok d p Free
+  lmp : (d : OpenData) (p : OpenPriority) (t n : ℕ) (said : Said) → lmp_said t n ≡ said → Ok d p Free
       → Runs (at d p Free) (SLP ∷ data_symbol t ∷ data_symbol n ∷ data_symbol (bit_xor t n) ∷ []) (nothing ∷ nothing ∷ nothing ∷ said ∷ []) (at d p Free)
   lmp d p t n said q ok =
       go (at d p Free) (at d p (Next LmpType)) SLP nothing ok (λ e. on_slp s d p e ok)
@@ -120,7 +118,7 @@ module _ (s : ℕ) where
       (λ ok3. step (data_symbol (bit_xor t n)) said (λ e. on_lmp_check s d p e t n ok3 ∙ ap (λ (x : Said). gives x (at d p Free)) q)
       (stop (at d p Free)))))
 
-  fills : (d : DataPacket) (p : PriorityPacket) → Ok d p Free → (fs : List Symbol) (gs : List Said) → Fill fs gs → Runs (at d p Free) fs gs (at d p Free)
+  fills : (d : OpenData) (p : OpenPriority) → Ok d p Free → (fs : List Symbol) (gs : List Said) → Fill fs gs → Runs (at d p Free) fs gs (at d p Free)
   fills d p ok fs gs idl = step IDL nothing (λ e. on_idl s d p e ok) (stop (at d p Free))
   fills d p ok fs gs com_idles =
       go (at d p Free) (at d p (Idles 3)) COM nothing ok (λ e. on_com s d p e ok)
@@ -133,9 +131,9 @@ module _ (s : ℕ) where
   -- ---- a packet's own bytes, with what may stand among them; v tells whether no priority packet is open
 
   module _ (Among : List Symbol → List Said → Type 0) (v : Bool)
-      (runs_among : (d : DataPacket) (p : PriorityPacket) → no_priority p ≡ v → Ok d p Free → (fs : List Symbol) (gs : List Said) → Among fs gs
+      (runs_among : (d : OpenData) (p : OpenPriority) → no_priority p ≡ v → Ok d p Free → (fs : List Symbol) (gs : List Said) → Among fs gs
       → Runs (at d p Free) fs gs (at d p Free)) where
-    insides : {bs : List ℕ} {ss : List Symbol} {es : List Said} → Inside Among bs ss es → (d : DataPacket) (p : PriorityPacket)
+    insides : {bs : List ℕ} {ss : List Symbol} {es : List Said} → Inside Among bs ss es → (d : OpenData) (p : OpenPriority)
         → no_priority p ≡ v → outside d p ≡ false → Room s p (length bs) → Ok d p Free
         → Runs (at d p Free) ss es (at (data_after d p bs) (priority_after p bs) Free)
     insides end d p n o room ok = stop (at d p Free)
@@ -146,7 +144,7 @@ module _ (s : ℕ) where
     insides (among {fs = fs} {gs = gs} m i) d p n o room ok = runs_append (runs_among d p n ok fs gs m) (insides i d p n o room ok)
 
     -- from the opening byte to the last of the CRC
-    bodies : {bs : List ℕ} {ss : List Symbol} {es : List Said} → Inside Among bs ss es → (d : DataPacket) (p : PriorityPacket) (bad : Bool)
+    bodies : {bs : List ℕ} {ss : List Symbol} {es : List Said} → Inside Among bs ss es → (d : OpenData) (p : OpenPriority) (bad : Bool)
         → no_priority p ≡ v → outside d p ≡ false → register_in d p ≡ crc_start → 1 ≤ length bs → Room s p (length bs) → Ok d p Free
         → Runs (at d p Free) (ss ++ closing bad (opening_byte d p) bs) (es ++ closing_said bad) (closed s d p)
     unfolding crc_of
@@ -163,36 +161,36 @@ module _ (s : ℕ) where
 
   -- ---- priority packets, data packets, and the line
 
-  priorities : (d : DataPacket) → Ok d NoPriority Free → (fs : List Symbol) (gs : List Said) → PriorityLine s fs gs
-      → Runs (at d NoPriority Free) fs gs (at d NoPriority Free)
+  priorities : (d : OpenData) → Ok d None Free → (fs : List Symbol) (gs : List Said) → PriorityLine s fs gs
+      → Runs (at d None Free) fs gs (at d None Free)
   priorities d ok fs gs (priority c g bs bad hc hg one most i) =
       let o = 16 * g + c in
       let low : o % 16 ≡ c = omega arith in
       let high : o / 16 ≡ g = omega arith in
-      go (at d NoPriority Free) (at d NoPriority (Next Opening)) SPP nothing ok (λ e. on_spp s d NoPriority e refl ok)
-      (λ ok1. go (at d NoPriority (Next Opening)) (at d (InPriority o 0 crc_start) Free) (data_symbol o) (started c (some g)) ok1
-      (λ e. on_opening s d NoPriority e o ok1 ∙ ap₂ (λ (x y : ℕ). gives (started x (some y)) (at d (InPriority o 0 crc_start) Free)) low high)
-      (λ ok2. bodies Fill false (λ d1 p1 n k. fills d1 p1 k) i d (InPriority o 0 crc_start) bad refl refl refl one (omega arith) ok2))
+      go (at d None Free) (at d None (Next Opening)) SPP nothing ok (λ e. on_spp s d None e refl ok)
+      (λ ok1. go (at d None (Next Opening)) (at d (open_priority o 0 crc_start) Free) (data_symbol o) (started c (some g)) ok1
+      (λ e. on_opening s d None e o ok1 ∙ ap₂ (λ (x y : ℕ). gives (started x (some y)) (at d (open_priority o 0 crc_start) Free)) low high)
+      (λ ok2. bodies Fill false (λ d1 p1 n k. fills d1 p1 k) i d (open_priority o 0 crc_start) bad refl refl refl one (omega arith) ok2))
 
-  withins : (d : DataPacket) (p : PriorityPacket) → no_priority p ≡ true → Ok d p Free → (fs : List Symbol) (gs : List Said) → Within s fs gs
+  withins : (d : OpenData) (p : OpenPriority) → no_priority p ≡ true → Ok d p Free → (fs : List Symbol) (gs : List Said) → Within s fs gs
       → Runs (at d p Free) fs gs (at d p Free)
   withins d p n ok fs gs (fill f) = fills d p ok fs gs f
-  withins d NoPriority n ok fs gs (nested l) = priorities d ok fs gs l
-  withins d (InPriority o m c) n ok fs gs (nested l) = absurd (let z : ◌≡◌ {A = ℕ} 0 1 = cc n in omega arith)
+  withins d None n ok fs gs (nested l) = priorities d ok fs gs l
+  withins d (Some inner) n ok fs gs (nested l) = absurd (let z : ◌≡◌ {A = ℕ} 0 1 = cc n in omega arith)
 
-  packets : Ok NoData NoPriority Free → (fs : List Symbol) (gs : List Said) → DataLine s fs gs → Runs (fresh s) fs gs (fresh s)
+  packets : Ok None None Free → (fs : List Symbol) (gs : List Said) → DataLine s fs gs → Runs (fresh s) fs gs (fresh s)
   packets ok fs gs (packet c bs bad hc one i) =
-      go (at NoData NoPriority Free) (at NoData NoPriority (Next Channel)) SDP nothing ok (λ e. on_sdp s NoData NoPriority e refl ok)
-      (λ ok1. go (at NoData NoPriority (Next Channel)) (at (InData c false crc_start) NoPriority Free) (data_symbol c) (started c none) ok1
-      (λ e. on_channel s NoData NoPriority e c ok1)
-      (λ ok2. bodies (Within s) true withins i (InData c false crc_start) NoPriority bad refl refl refl one tt ok2))
+      go (at None None Free) (at None None (Next Channel)) SDP nothing ok (λ e. on_sdp s None None e refl ok)
+      (λ ok1. go (at None None (Next Channel)) (at (open_data c false crc_start) None Free) (data_symbol c) (started c none) ok1
+      (λ e. on_channel s None None e c ok1)
+      (λ ok2. bodies (Within s) true withins i (open_data c false crc_start) None bad refl refl refl one tt ok2))
 
-  pub outsides : Ok NoData NoPriority Free → (fs : List Symbol) (gs : List Said) → Outside s fs gs → Runs (fresh s) fs gs (fresh s)
+  pub outsides : Ok None None Free → (fs : List Symbol) (gs : List Said) → Outside s fs gs → Runs (fresh s) fs gs (fresh s)
   outsides ok fs gs zeros = step (data_symbol 0) nothing (λ e. on_zero s e ok) (stop (fresh s))
-  outsides ok fs gs (within w) = withins NoData NoPriority refl ok fs gs w
+  outsides ok fs gs (within w) = withins None None refl ok fs gs w
   outsides ok fs gs (data_packet l) = packets ok fs gs l
 
-  pub lines : Ok NoData NoPriority Free → {ss : List Symbol} {es : List Said} → LegalLine s ss es → Runs (fresh s) ss es (fresh s)
+  pub lines : Ok None None Free → {ss : List Symbol} {es : List Said} → LegalLine s ss es → Runs (fresh s) ss es (fresh s)
   lines ok empty = stop (fresh s)
   lines ok (then {fs = fs} {gs = gs} o l) = runs_append (outsides ok fs gs o) (lines ok l)
 

@@ -15,10 +15,8 @@ use Rattle.symbol.specs.declared.Symbol.{Symbol}
 use Rattle.character_rules.specs.Answers.{Reading}
 use Rattle.packet_rules.specs.declared.Kind.{Kind}
 use Rattle.packet_rules.specs.declared.Kind.TheVariants.{Data, Idl, Com, Opens, Closes, NoPlace, Unsupported}
-use Rattle.packet_rules.specs.declared.DataPacket.{DataPacket}
-use Rattle.packet_rules.specs.declared.DataPacket.TheVariants.{NoData, InData}
-use Rattle.packet_rules.specs.declared.PriorityPacket.{PriorityPacket}
-use Rattle.packet_rules.specs.declared.PriorityPacket.TheVariants.{NoPriority, InPriority}
+use Rattle.packet_rules.specs.Open.{OpenData, OpenPriority}
+use Rattle.std.specs.Prelude.{Some, None}
 use Rattle.packet_rules.specs.declared.Due.{Due}
 use Rattle.packet_rules.specs.declared.Due.TheVariants.{Channel, Opening, Closing, FirstCrc, SecondCrc, LmpType, LmpNumber, LmpCheck}
 use Rattle.packet_rules.specs.declared.Phase.{Phase}
@@ -44,27 +42,27 @@ never e = absurd (false_is_not_true (sym e))
 module _ (s z : ℕ) where
   -- ---- a symbol in its place before what must still come: no sequence is begun
 
-  abbrev Fits : DataPacket → PriorityPacket → Phase → Kind → Type 0
+  abbrev Fits : OpenData → OpenPriority → Phase → Kind → Type 0
   Fits d p w k = NoneOf (conditions (st z d p w) k)
 
-  bytes : (d : DataPacket) (p : PriorityPacket) (b : ℕ) (ts : List Symbol) → Fits d p Free (Data b)
+  bytes : (d : OpenData) (p : OpenPriority) (b : ℕ) (ts : List Symbol) → Fits d p Free (Data b)
       → FreeRest s (fed_data d p b) (fed_priority p b) ts → FreeRest s d p (data_symbol b ∷ ts)
-  bytes NoData NoPriority b ts h (es, l) =
+  bytes None None b ts h (es, l) =
       subst (λ (x : ℕ). Line s (data_symbol x ∷ ts)) (sym (eqb-true b 0 (not-false (eqb b 0) h.1.1.1.1.1.1.0))) (_, then zeros l)
-  bytes (InData c begun r) NoPriority b ts h (body bs bad i fit after) = body (b ∷ bs) bad (byte b i) (λ f. omega arith) after
-  bytes d (InPriority o n c) b ts h (body bs bad i fit after) =
+  bytes (Some outer) None b ts h (body bs bad i fit after) = body (b ∷ bs) bad (byte b i) (λ f. omega arith) after
+  bytes d (Some inner) b ts h (body bs bad i fit after) =
       body (b ∷ bs) bad (byte b i) (omega (arith, fit.0), omega (arith, fit.1)) after
 
-  sdp : (d : DataPacket) (p : PriorityPacket) (ts : List Symbol) → outside d p ≡ true → DueRest s d p Channel ts → FreeRest s d p (SDP ∷ ts)
-  sdp NoData NoPriority ts h l = data_first s ts l
-  sdp (InData c begun r) NoPriority ts h l = never (sym h)
-  sdp d (InPriority o n c) ts h l = never (sym h)
+  sdp : (d : OpenData) (p : OpenPriority) (ts : List Symbol) → outside d p ≡ true → DueRest s d p Channel ts → FreeRest s d p (SDP ∷ ts)
+  sdp None None ts h l = data_first s ts l
+  sdp (Some outer) None ts h l = never (sym h)
+  sdp d (Some inner) ts h l = never (sym h)
 
-  spp : (d : DataPacket) (p : PriorityPacket) (ts : List Symbol) → no_priority p ≡ true → DueRest s d p Opening ts → FreeRest s d p (SPP ∷ ts)
-  spp d NoPriority ts h l = priority_first s d ts l
-  spp d (InPriority o n c) ts h l = never (sym h)
+  spp : (d : OpenData) (p : OpenPriority) (ts : List Symbol) → no_priority p ≡ true → DueRest s d p Opening ts → FreeRest s d p (SPP ∷ ts)
+  spp d None ts h l = priority_first s d ts l
+  spp d (Some inner) ts h l = never (sym h)
 
-  frees : (d : DataPacket) (p : PriorityPacket) {x : Symbol} {k : Kind} → OfKind x k → priority_rule s p ≡ true → Fits d p Free k → (ts : List Symbol)
+  frees : (d : OpenData) (p : OpenPriority) {x : Symbol} {k : Kind} → OfKind x k → priority_rule s p ≡ true → Fits d p Free k → (ts : List Symbol)
       → Rest s (free_move k (st z d p Free)).reader ts → FreeRest s d p (x ∷ ts)
   frees d p (is_byte b) r h ts l = bytes d p b ts h l
   frees d p is_idl_lem r h ts l = fill_first s d p ts idl l
@@ -78,12 +76,12 @@ module _ (s z : ℕ) where
 
   -- ---- a byte is due
 
-  closed : (d : DataPacket) (p : PriorityPacket) (said : Said) (r : Reader) (ts : List Symbol) → r.packet ≡ d → Rest s (closes_own said p r).reader ts
+  closed : (d : OpenData) (p : OpenPriority) (said : Said) (r : Reader) (ts : List Symbol) → r.packet ≡ d → Rest s (closes_own said p r).reader ts
       → ClosedRest s d p ts
-  closed d NoPriority said r ts e l = l
-  closed d (InPriority o n c) said r ts e l = subst (λ (x : DataPacket). InDataRest s x ts) e l
+  closed d None said r ts e l = l
+  closed d (Some inner) said r ts e l = subst (λ (x : OpenData). InDataRest s x ts) e l
 
-  dues : (d : DataPacket) (p : PriorityPacket) (x : Due) (b : ℕ) → b < 256 → Fits d p (Next x) (Data b) → (ts : List Symbol)
+  dues : (d : OpenData) (p : OpenPriority) (x : Due) (b : ℕ) → b < 256 → Fits d p (Next x) (Data b) → (ts : List Symbol)
       → Rest s (due_move x b (st z d p (Next x))).reader ts → DueRest s d p x (data_symbol b ∷ ts)
   dues d p Channel b lt h ts l = one_byte b lt l
   dues d p Opening b lt h ts l = one_byte b lt l
@@ -102,7 +100,7 @@ module _ (s z : ℕ) where
   dues d p (LmpNumber t) b lt h ts l = one_byte b lt l
   dues d p (LmpCheck t n) b lt h ts l = one_byte b lt (eqb-true b (bit_xor t n) (not-false (eqb b (bit_xor t n)) h.1.1.1.1.0), l)
 
-  nexts : (d : DataPacket) (p : PriorityPacket) (w : Due) {x : Symbol} {k : Kind} → OfKind x k → x.byte < 256 → Fits d p (Next w) k → (ts : List Symbol)
+  nexts : (d : OpenData) (p : OpenPriority) (w : Due) {x : Symbol} {k : Kind} → OfKind x k → x.byte < 256 → Fits d p (Next w) k → (ts : List Symbol)
       → Rest s (move (Next w) k (st z d p (Next w))).reader ts → DueRest s d p w (x ∷ ts)
   nexts d p w (is_byte b) lt h ts l = dues d p w b lt h ts l
   nexts d p w is_idl_lem lt h ts l = never h.1.0
@@ -116,7 +114,7 @@ module _ (s z : ℕ) where
 
   -- ---- after COM
 
-  idles : (d : DataPacket) (p : PriorityPacket) (n : ℕ) {x : Symbol} {k : Kind} → OfKind x k → Fits d p (Idles n) k → (ts : List Symbol)
+  idles : (d : OpenData) (p : OpenPriority) (n : ℕ) {x : Symbol} {k : Kind} → OfKind x k → Fits d p (Idles n) k → (ts : List Symbol)
       → PhaseRest s d p (idles_after n) ts → IdlesLeft (FreeRest s d p) n (x ∷ ts)
   idles d p n is_idl_lem h ts l =
       either (λ (w : Phase). PhaseRest s d p w ts → IdlesLeft (FreeRest s d p) n (IDL ∷ ts)) (leb n 1) Free (Idles (n - 1))
@@ -131,7 +129,7 @@ module _ (s z : ℕ) where
   idles d p n (is_unsupported_lem x) h ts l = never h.0
 
   -- in every phase
-  before : (d : DataPacket) (p : PriorityPacket) (w : Phase) {x : Symbol} {k : Kind} → OfKind x k → x.byte < 256 → priority_rule s p ≡ true → Fits d p w k
+  before : (d : OpenData) (p : OpenPriority) (w : Phase) {x : Symbol} {k : Kind} → OfKind x k → x.byte < 256 → priority_rule s p ≡ true → Fits d p w k
       → (ts : List Symbol) → Rest s (move w k (st z d p w)).reader ts → PhaseRest s d p w (x ∷ ts)
   before d p Free v lt r h ts l = frees d p v r h ts l
   before d p (Next x) v lt r h ts l = nexts d p x v lt h ts l
@@ -147,9 +145,9 @@ due_size (Closing bad) b r = refl
 due_size (FirstCrc bad) b r = refl
 due_size (SecondCrc bad a) b r = own r.priority
   where
-    own : (p : PriorityPacket) → (closes_own (ended bad) p r).reader.size ≡ r.size
-    own NoPriority = refl
-    own (InPriority o n c) = refl
+    own : (p : OpenPriority) → (closes_own (ended bad) p r).reader.size ≡ r.size
+    own None = refl
+    own (Some inner) = refl
 due_size LmpType b r = refl
 due_size (LmpNumber t) b r = refl
 due_size (LmpCheck t n) b r = refl
@@ -178,7 +176,7 @@ priority_kept r h =
     let w = phase_rule r.packet r.priority r.phase in
     first_true p w (second_true d (p && w) (second_true a (d && (p && w)) h))
 
-asleep : (s : ℕ) (d : DataPacket) (p : PriorityPacket) (w : Phase) (ss : List Symbol) → is_dropping w ≡ true → PhaseRest s d p w ss
+asleep : (s : ℕ) (d : OpenData) (p : OpenPriority) (w : Phase) (ss : List Symbol) → is_dropping w ≡ true → PhaseRest s d p w ss
 asleep s d p Free ss e = never (sym e)
 asleep s d p (Next x) ss e = never (sym e)
 asleep s d p (Idles n) ss e = never (sym e)

@@ -14,10 +14,8 @@ use Rattle.crc.specs.Crc16.{crc_start, crc_byte, crc_from}
 use Rattle.crc.proofs.Laws.{start_value, crc_append, crc_none}
 use Rattle.packet_rules.specs.declared.Kind.{Kind}
 use Rattle.packet_rules.specs.declared.Kind.TheVariants.{Data, Idl, Com, Opens, Closes, NoPlace, Unsupported}
-use Rattle.packet_rules.specs.declared.DataPacket.{DataPacket}
-use Rattle.packet_rules.specs.declared.DataPacket.TheVariants.{NoData, InData}
-use Rattle.packet_rules.specs.declared.PriorityPacket.{PriorityPacket}
-use Rattle.packet_rules.specs.declared.PriorityPacket.TheVariants.{NoPriority, InPriority}
+use Rattle.packet_rules.specs.Open.{OpenData, OpenPriority, open_data, open_priority}
+use Rattle.std.specs.Prelude.{Some, None}
 use Rattle.packet_rules.specs.declared.Due.{Due}
 use Rattle.packet_rules.specs.declared.Due.TheVariants.{Channel, Opening, Closing, FirstCrc, SecondCrc, LmpType, LmpNumber, LmpCheck}
 use Rattle.packet_rules.specs.declared.Phase.{Phase}
@@ -36,13 +34,13 @@ is_some [] = false
 is_some (b ∷ bs) = true
 
 -- the packet that is open has these bytes
-pub data PriorityIs : Option (List ℕ) → PriorityPacket → Type 0 where
-  no_priority_lem : PriorityIs none NoPriority
-  priority_of_lem : (bs : List ℕ) (o n c : ℕ) → n ≡ length bs → c ≡ crc_from crc_start bs → PriorityIs (some bs) (InPriority o n c)
+pub data PriorityIs : Option (List ℕ) → OpenPriority → Type 0 where
+  no_priority_lem : PriorityIs none None
+  priority_of_lem : (bs : List ℕ) (o n c : ℕ) → n ≡ length bs → c ≡ crc_from crc_start bs → PriorityIs (some bs) (open_priority o n c)
 
-pub data DataIs : Option (List ℕ) → DataPacket → Type 0 where
-  no_data : DataIs none NoData
-  data_of : (bs : List ℕ) (h : ℕ) (begun : Bool) (c : ℕ) → begun ≡ is_some bs → c ≡ crc_from crc_start bs → DataIs (some bs) (InData h begun c)
+pub data DataIs : Option (List ℕ) → OpenData → Type 0 where
+  no_data : DataIs none None
+  data_of : (bs : List ℕ) (h : ℕ) (begun : Bool) (c : ℕ) → begun ≡ is_some bs → c ≡ crc_from crc_start bs → DataIs (some bs) (open_data h begun c)
 
 pub record Tracks (k : Seen) (r : Reader) : Type 0 where
   pub packet : DataIs k.packet r.packet
@@ -66,7 +64,7 @@ some_more [] b = refl
 some_more (x ∷ bs) b = refl
 
 -- the packets stay as they are, whatever the phase
-still : {d : Option (List ℕ)} {p : Option (List ℕ)} {e : DataPacket} {q : PriorityPacket} (s : ℕ) (w : Phase) → DataIs d e → PriorityIs p q
+still : {d : Option (List ℕ)} {p : Option (List ℕ)} {e : OpenData} {q : OpenPriority} (s : ℕ) (w : Phase) → DataIs d e → PriorityIs p q
     → Tracks (record { packet = d; priority = p }) (record { size = s; packet = e; priority = q; phase = w })
 still s w x y = record { packet = x; priority = y }
 
@@ -75,7 +73,7 @@ module _ (k : Seen) (r : Reader) (t : Tracks k r) where
   unfolding seen_after
   user b = by t.packet t.priority
     where
-      by : {d : Option (List ℕ)} {p : Option (List ℕ)} {e : DataPacket} {q : PriorityPacket} → DataIs d e → PriorityIs p q
+      by : {d : Option (List ℕ)} {p : Option (List ℕ)} {e : OpenData} {q : OpenPriority} → DataIs d e → PriorityIs p q
           → Tracks (seen_after (record { packet = d; priority = p }) (cond (outside e q) nothing (gave_byte b)))
           (record { size = r.size; packet = fed_data e q b; priority = fed_priority q b; phase = Free })
       by x (priority_of_lem bs o n c l g) =
@@ -87,7 +85,7 @@ module _ (k : Seen) (r : Reader) (t : Tracks k r) where
   own : (said : Said) → Tracks (seen_end k.packet k.priority) (closes_own said r.priority r).reader
   own said = by t.packet t.priority
     where
-      by : {d : Option (List ℕ)} {p : Option (List ℕ)} {e : DataPacket} {q : PriorityPacket} → DataIs d e → PriorityIs p q
+      by : {d : Option (List ℕ)} {p : Option (List ℕ)} {e : OpenData} {q : OpenPriority} → DataIs d e → PriorityIs p q
           → Tracks (seen_end d p) (closes_own said q (record { size = r.size; packet = e; priority = q; phase = r.phase })).reader
       by x (priority_of_lem bs o n c l g) = still r.size Free x no_priority_lem
       by x no_priority_lem = still r.size Free no_data no_priority_lem
@@ -119,9 +117,9 @@ module _ (k : Seen) (r : Reader) (t : Tracks k r) where
   dues (FirstCrc bad) b = same (Next (SecondCrc bad b))
   dues (SecondCrc bad a) b = ending r.priority (own (ended bad))
     where
-      ending : (q : PriorityPacket) → Tracks (seen_end k.packet k.priority) (closes_own (ended bad) q r).reader → Follows k (closes_own (ended bad) q r)
-      ending NoPriority h = h
-      ending (InPriority o n c) h = h
+      ending : (q : OpenPriority) → Tracks (seen_end k.packet k.priority) (closes_own (ended bad) q r).reader → Follows k (closes_own (ended bad) q r)
+      ending None h = h
+      ending (Some inner) h = h
   dues LmpType b = same (Next (LmpNumber b))
   dues (LmpNumber x) b = same (Next (LmpCheck x b))
   dues (LmpCheck x n) b = lmps x n
@@ -142,10 +140,10 @@ module _ (k : Seen) (r : Reader) (t : Tracks k r) where
       by true y e f = simp (e) (same Free)
       by false true e f = simp (e, f) (ending r.priority (own (violated n)))
         where
-          ending : (q : PriorityPacket) → Tracks (seen_end k.packet k.priority) (closes_own (violated n) q r).reader
+          ending : (q : OpenPriority) → Tracks (seen_end k.packet k.priority) (closes_own (violated n) q r).reader
               → Tracks (seen_after k (closes_own (violated n) q r).said) (closes_own (violated n) q r).reader
-          ending NoPriority h = simp (e, f) h
-          ending (InPriority o m c) h = simp (e, f) h
+          ending None h = simp (e, f) h
+          ending (Some inner) h = simp (e, f) h
       by false false e f = simp (e, f) (still r.size Dropping no_data no_priority_lem)
 
   follows : (g : Reading) → Follows k (step_of r g)

@@ -15,10 +15,8 @@ use Rattle.symbol.specs.declared.Symbol.{Symbol}
 use Rattle.laws.proofs.Cases.{by_test, first_true, second_true, false_is_not_true}
 use Rattle.crc.specs.Crc16.{crc_start, crc_byte, crc_from, check_bytes_of, crc_of}
 use Rattle.crc.proofs.Laws.{start_value, check_bytes_lem, crc_cons, crc_none, crc_lt}
-use Rattle.packet_rules.specs.declared.DataPacket.{DataPacket}
-use Rattle.packet_rules.specs.declared.DataPacket.TheVariants.{NoData, InData}
-use Rattle.packet_rules.specs.declared.PriorityPacket.{PriorityPacket}
-use Rattle.packet_rules.specs.declared.PriorityPacket.TheVariants.{NoPriority, InPriority}
+use Rattle.packet_rules.specs.Open.{OpenData, OpenPriority, open_data, open_priority}
+use Rattle.std.specs.Prelude.{Some, None}
 use Rattle.packet_rules.specs.declared.Due.{Due}
 use Rattle.packet_rules.specs.declared.Due.TheVariants.{Channel, Opening, Closing, FirstCrc, SecondCrc, LmpType, LmpNumber, LmpCheck}
 use Rattle.packet_rules.specs.declared.Phase.{Phase}
@@ -82,20 +80,20 @@ module _ (s : ℕ) where
   abbrev pub Line : List Symbol → Type 0
   Line ss = (es : List Said) × LegalLine s ss es
 
-  abbrev pub InDataRest : DataPacket → List Symbol → Type 0
-  InDataRest NoData ss = Line ss
-  InDataRest (InData h begun c) ss = Body (Within s) Line h c (λ k. begun ≡ false → 1 ≤ k) ss
+  abbrev pub InDataRest : OpenData → List Symbol → Type 0
+  InDataRest None ss = Line ss
+  InDataRest (Some outer) ss = Body (Within s) Line outer.channel outer.register (λ k. outer.begun ≡ false → 1 ≤ k) ss
 
-  abbrev pub FreeRest : DataPacket → PriorityPacket → List Symbol → Type 0
-  FreeRest d NoPriority ss = InDataRest d ss
-  FreeRest d (InPriority o n c) ss = Body Fill (InDataRest d) o c (λ k. (1 ≤ n + k) × (n + k ≤ s)) ss
+  abbrev pub FreeRest : OpenData → OpenPriority → List Symbol → Type 0
+  FreeRest d None ss = InDataRest d ss
+  FreeRest d (Some inner) ss = Body Fill (InDataRest d) inner.opening inner.register (λ k. (1 ≤ inner.count + k) × (inner.count + k ≤ s)) ss
 
   -- after the packet to which an end belongs
-  abbrev pub ClosedRest : DataPacket → PriorityPacket → List Symbol → Type 0
-  ClosedRest d NoPriority ss = Line ss
-  ClosedRest d (InPriority o n c) ss = InDataRest d ss
+  abbrev pub ClosedRest : OpenData → OpenPriority → List Symbol → Type 0
+  ClosedRest d None ss = Line ss
+  ClosedRest d (Some inner) ss = InDataRest d ss
 
-  module _ (d : DataPacket) (p : PriorityPacket) where
+  module _ (d : OpenData) (p : OpenPriority) where
     abbrev pub SecondRest : ℕ → List Symbol → Type 0
     SecondRest a = OneByte (λ b ts. ((a ≡ first_of (register_in d p)) × (b ≡ second_of (register_in d p))) × ClosedRest d p ts)
 
@@ -109,8 +107,8 @@ module _ (s : ℕ) where
     NumberRest t = OneByte (CheckRest t)
 
     abbrev pub DueRest : Due → List Symbol → Type 0
-    DueRest Channel = OneByte (λ b. FreeRest (InData b false crc_start) p)
-    DueRest Opening = OneByte (λ b. FreeRest d (InPriority b 0 crc_start))
+    DueRest Channel = OneByte (λ b. FreeRest (open_data b false crc_start) p)
+    DueRest Opening = OneByte (λ b. FreeRest d (open_priority b 0 crc_start))
     DueRest (Closing bad) = OneByte (λ b ts. (b ≡ opening_byte d p) × FirstRest ts)
     DueRest (FirstCrc bad) = FirstRest
     DueRest (SecondCrc bad a) = SecondRest a
@@ -130,22 +128,22 @@ module _ (s : ℕ) where
 
   -- ---- a piece before what must still come
 
-  within_first : (d : DataPacket) (ts : List Symbol) {fs : List Symbol} {gs : List Said} → Within s fs gs → InDataRest d ts → InDataRest d (fs ++ ts)
-  within_first NoData ts {gs = gs} w (es, l) = (gs ++ es, then (within w) l)
-  within_first (InData h begun c) ts {fs} w (body bs bad {xs = xs} {ts = us} i fit after) =
-      subst (λ (l : List Symbol). InDataRest (InData h begun c) l) (append_assoc fs xs (ends_with bad h (register_after c bs) us))
+  within_first : (d : OpenData) (ts : List Symbol) {fs : List Symbol} {gs : List Said} → Within s fs gs → InDataRest d ts → InDataRest d (fs ++ ts)
+  within_first None ts {gs = gs} w (es, l) = (gs ++ es, then (within w) l)
+  within_first (Some outer) ts {fs} w (body bs bad {xs = xs} {ts = us} i fit after) =
+      subst (λ (l : List Symbol). InDataRest (Some outer) l) (append_assoc fs xs (ends_with bad outer.channel (register_after outer.register bs) us))
       (body bs bad (among w i) fit after)
 
-  pub fill_first : (d : DataPacket) (p : PriorityPacket) (ts : List Symbol) {fs : List Symbol} {gs : List Said} → Fill fs gs → FreeRest d p ts
+  pub fill_first : (d : OpenData) (p : OpenPriority) (ts : List Symbol) {fs : List Symbol} {gs : List Said} → Fill fs gs → FreeRest d p ts
       → FreeRest d p (fs ++ ts)
-  fill_first d NoPriority ts f l = within_first d ts (fill f) l
-  fill_first d (InPriority o n c) ts {fs} f (body bs bad {xs = xs} {ts = us} i fit after) =
-      subst (λ (l : List Symbol). FreeRest d (InPriority o n c) l) (append_assoc fs xs (ends_with bad o (register_after c bs) us))
+  fill_first d None ts f l = within_first d ts (fill f) l
+  fill_first d (Some inner) ts {fs} f (body bs bad {xs = xs} {ts = us} i fit after) =
+      subst (λ (l : List Symbol). FreeRest d (Some inner) l) (append_assoc fs xs (ends_with bad inner.opening (register_after inner.register bs) us))
       (body bs bad (among f i) fit after)
 
   -- ---- COM and its idles, and LMPs
 
-  pub com_first : (d : DataPacket) (p : PriorityPacket) (ts : List Symbol) → IdlesLeft (FreeRest d p) 3 ts → FreeRest d p (COM ∷ ts)
+  pub com_first : (d : OpenData) (p : OpenPriority) (ts : List Symbol) → IdlesLeft (FreeRest d p) 3 ts → FreeRest d p (COM ∷ ts)
   com_first d p ts (last_idle n e l) = absurd (let z : ◌≡◌ {A = ℕ} 0 1 = cc e in omega arith)
   com_first d p ts (one_idle n e (last_idle m f l)) = absurd (let z : ◌≡◌ {A = ℕ} 0 1 = cc f in omega arith)
   com_first d p ts (one_idle n e (one_idle m f (last_idle k {ts = us} g l))) = fill_first d p us com_idles l
@@ -167,13 +165,13 @@ module _ (s : ℕ) where
           (λ q. subst Some (sym (eqb-true t 0x21 (subst (λ (x : Bool). x || eqb t 0x21 ≡ true) q e)))
           (nothing ∷ nothing ∷ nothing ∷ replied true n ∷ [], reply true n h))
 
-  pub lmp_first : (d : DataPacket) (p : PriorityPacket) (ts : List Symbol) → DueRest d p LmpType ts → FreeRest d p (SLP ∷ ts)
+  pub lmp_first : (d : OpenData) (p : OpenPriority) (ts : List Symbol) → DueRest d p LmpType ts → FreeRest d p (SLP ∷ ts)
   lmp_first d p ts (one_byte t lt (one_byte n ln (one_byte b {ts = us} lb (q, l)))) =
       subst (λ (x : ℕ). FreeRest d p (SLP ∷ data_symbol t ∷ data_symbol n ∷ data_symbol x ∷ us)) (sym q) (fill_first d p us (lmp_fill t n).1 l)
 
   -- ---- packets
 
-  pub priority_first : (d : DataPacket) (ts : List Symbol) → DueRest d NoPriority Opening ts → InDataRest d (SPP ∷ ts)
+  pub priority_first : (d : OpenData) (ts : List Symbol) → DueRest d None Opening ts → InDataRest d (SPP ∷ ts)
   priority_first d ts (one_byte b lt (body bs bad {xs = xs} {ts = us} {es = es} i fit after)) =
       let c = b % 16 in
       let g = b / 16 in
@@ -183,14 +181,14 @@ module _ (s : ℕ) where
       (priority c g bs bad (omega arith) (omega arith) (omega (arith, fit.0)) (omega (arith, fit.1)) i) in
       subst (λ (l : List Symbol). InDataRest d (SPP ∷ data_symbol b ∷ l)) (closing_is xs us bad b bs) (within_first d us (nested whole) after)
 
-  pub data_first : (ts : List Symbol) → DueRest NoData NoPriority Channel ts → Line (SDP ∷ ts)
+  pub data_first : (ts : List Symbol) → DueRest None None Channel ts → Line (SDP ∷ ts)
   data_first ts (one_byte b lt (body bs bad {xs = xs} {ts = us} {es = es} i fit (fs, l))) =
       subst (λ (r : List Symbol). Line (SDP ∷ data_symbol b ∷ r)) (closing_is xs us bad b bs)
       ((nothing ∷ started b none ∷ (es ++ closing_said bad)) ++ fs, then (data_packet (packet b bs bad lt (fit refl) i)) l)
 
   -- ---- the closing of a packet that has a byte
 
-  ends : (d : DataPacket) (p : PriorityPacket) (bad : Bool) (ts : List Symbol) → DueRest d p (Closing bad) ts
+  ends : (d : OpenData) (p : OpenPriority) (bad : Bool) (ts : List Symbol) → DueRest d p (Closing bad) ts
       → (us : List Symbol) × (ClosedRest d p us × (ends_with bad (opening_byte d p) (register_in d p) us ≡ end_symbol bad ∷ ts))
   ends d p bad ts (one_byte h lh (q, one_byte a la (one_byte b {ts = us} lb ((x, y), l)))) = (
     us,
@@ -201,15 +199,15 @@ module _ (s : ℕ) where
     ),
   )
 
-  pub end_first : (d : DataPacket) (p : PriorityPacket) (bad : Bool) (ts : List Symbol) → outside d p ≡ false → has_byte d p ≡ true → priority_rule s p ≡ true
+  pub end_first : (d : OpenData) (p : OpenPriority) (bad : Bool) (ts : List Symbol) → outside d p ≡ false → has_byte d p ≡ true → priority_rule s p ≡ true
       → DueRest d p (Closing bad) ts → FreeRest d p (end_symbol bad ∷ ts)
-  end_first NoData NoPriority bad ts o h r l = absurd (let z : ◌≡◌ {A = ℕ} 0 1 = cc o in omega arith)
-  end_first (InData x begun c) NoPriority bad ts o h r l =
-      let e = ends (InData x begun c) NoPriority bad ts l in
-      subst (λ (k : List Symbol). FreeRest (InData x begun c) NoPriority k) e.1.1
+  end_first None None bad ts o h r l = absurd (let z : ◌≡◌ {A = ℕ} 0 1 = cc o in omega arith)
+  end_first (Some outer) None bad ts o h r l =
+      let e = ends (Some outer) None bad ts l in
+      subst (λ (k : List Symbol). FreeRest (Some outer) None k) e.1.1
       (body [] bad end (λ f. absurd (false_is_not_true (sym f ∙ h))) e.1.0)
-  end_first d (InPriority x n c) bad ts o h r l =
-      let e = ends d (InPriority x n c) bad ts l in
-      let one = ltb-true 0 n h in
-      let most = leb-true n s (first_true (leb n s) (ltb 0 n || eqb c crc_start) r) in
-      subst (λ (k : List Symbol). FreeRest d (InPriority x n c) k) e.1.1 (body [] bad end (omega arith, omega arith) e.1.0)
+  end_first d (Some inner) bad ts o h r l =
+      let e = ends d (Some inner) bad ts l in
+      let one = ltb-true 0 inner.count h in
+      let most = leb-true inner.count s (first_true (leb inner.count s) (ltb 0 inner.count || eqb inner.register crc_start) r) in
+      subst (λ (k : List Symbol). FreeRest d (Some inner) k) e.1.1 (body [] bad end (omega arith, omega arith) e.1.0)

@@ -12,10 +12,8 @@ use lib.ListN.{get_or}
 use Rattle.symbol.specs.Symbols.{data_symbol, is_twelve}
 use Rattle.character_rules.specs.Answers.{clean}
 use Rattle.crc.specs.Crc16.{crc_start, check_bytes_of}
-use Rattle.packet_rules.specs.declared.DataPacket.{DataPacket}
-use Rattle.packet_rules.specs.declared.DataPacket.TheVariants.{NoData, InData}
-use Rattle.packet_rules.specs.declared.PriorityPacket.{PriorityPacket}
-use Rattle.packet_rules.specs.declared.PriorityPacket.TheVariants.{NoPriority, InPriority}
+use Rattle.packet_rules.specs.Open.{OpenData, OpenPriority, open_data, open_priority}
+use Rattle.std.specs.Prelude.{None}
 use Rattle.packet_rules.specs.declared.Due.TheVariants.{Channel, Opening, Closing, FirstCrc, SecondCrc, LmpType, LmpNumber, LmpCheck}
 use Rattle.packet_rules.specs.declared.Phase.{Phase}
 use Rattle.packet_rules.specs.declared.Phase.TheVariants.{Free, Next, Idles}
@@ -28,10 +26,10 @@ use Rattle.packet_rules.specs.Step.{closes_own, lmp_said, read_of, step_of}
 use Rattle.packet_rules.specs.Line.{COM, IDL, SPP, SDP, SLP, end_symbol}
 use Rattle.packet_rules.proofs.Runs.{gives}
 
-abbrev pub st : ℕ → DataPacket → PriorityPacket → Phase → Reader
+abbrev pub st : ℕ → OpenData → OpenPriority → Phase → Reader
 st s d p w = record { size = s; packet = d; priority = p; phase = w }
 
-module _ (s : ℕ) (d : DataPacket) (p : PriorityPacket) (e : ℤ) where
+module _ (s : ℕ) (d : OpenData) (p : OpenPriority) (e : ℤ) where
   abbrev At : Phase → Type 0
   At w = well_formed (st s d p w) ≡ true
 
@@ -79,12 +77,12 @@ module _ (s : ℕ) (d : DataPacket) (p : PriorityPacket) (e : ℤ) where
   -- ---- the byte that is due
 
   pub on_channel : (b : ℕ) → At (Next Channel)
-      → step_of (st s d p (Next Channel)) (clean (data_symbol b) e) ≡ gives (started b none) (st s (InData b false crc_start) p Free)
+      → step_of (st s d p (Next Channel)) (clean (data_symbol b) e) ≡ gives (started b none) (st s (open_data b false crc_start) p Free)
   unfolding step_of read_of violation_of kind_of
   on_channel b ok = simp ok
 
   pub on_opening : (b : ℕ) → At (Next Opening)
-      → step_of (st s d p (Next Opening)) (clean (data_symbol b) e) ≡ gives (started (b % 16) (some (b / 16))) (st s d (InPriority b 0 crc_start) Free)
+      → step_of (st s d p (Next Opening)) (clean (data_symbol b) e) ≡ gives (started (b % 16) (some (b / 16))) (st s d (open_priority b 0 crc_start) Free)
   unfolding step_of read_of violation_of kind_of
   on_opening b ok = simp ok
 
@@ -120,7 +118,7 @@ module _ (s : ℕ) (d : DataPacket) (p : PriorityPacket) (e : ℤ) where
   on_lmp_check t n ok = simp (ok, eq-eqb (bit_xor t n) (bit_xor t n) refl)
 
 -- outside packets D0.0 is fill
-pub on_zero : (s : ℕ) (e : ℤ) → well_formed (st s NoData NoPriority Free) ≡ true
-    → step_of (st s NoData NoPriority Free) (clean (data_symbol 0) e) ≡ gives nothing (st s NoData NoPriority Free)
+pub on_zero : (s : ℕ) (e : ℤ) → well_formed (st s None None Free) ≡ true
+    → step_of (st s None None Free) (clean (data_symbol 0) e) ≡ gives nothing (st s None None Free)
 unfolding step_of read_of violation_of kind_of
 on_zero s e ok = simp ok

@@ -10,10 +10,8 @@ use lib.Dec.{eqb, ltb}
 use Rattle.character_rules.specs.Answers.{Reading}
 use Rattle.packet_rules.specs.declared.Kind.{Kind}
 use Rattle.packet_rules.specs.declared.Kind.TheVariants.{Data, Idl, Com, Opens, Closes, NoPlace, Unsupported}
-use Rattle.packet_rules.specs.declared.DataPacket.{DataPacket}
-use Rattle.packet_rules.specs.declared.DataPacket.TheVariants.{NoData, InData}
-use Rattle.packet_rules.specs.declared.PriorityPacket.{PriorityPacket}
-use Rattle.packet_rules.specs.declared.PriorityPacket.TheVariants.{NoPriority, InPriority}
+use Rattle.packet_rules.specs.Open.{OpenData, OpenPriority, open_priority}
+use Rattle.std.specs.Prelude.{Some, None}
 use Rattle.packet_rules.specs.declared.Due.{Due}
 use Rattle.packet_rules.specs.declared.Due.TheVariants.{Channel, Opening, Closing, FirstCrc, SecondCrc, LmpType, LmpNumber, LmpCheck}
 use Rattle.packet_rules.specs.declared.Phase.{Phase}
@@ -56,9 +54,9 @@ module _ (r : Reader) (g : Reading) (t : Taken r g) (awake : is_dropping r.phase
       breaks n = either (λ (a : Answer). a.said ≡ violated n) (eqb n 7) _ _ (λ e. refl)
           (λ e. either (λ (a : Answer). a.said ≡ violated n) (eqb n 6) _ _ (λ f. own r.priority) (λ f. refl))
         where
-          own : (p : PriorityPacket) → (closes_own (violated n) p r).said ≡ violated n
-          own NoPriority = refl
-          own (InPriority o c x) = refl
+          own : (p : OpenPriority) → (closes_own (violated n) p r).said ≡ violated n
+          own None = refl
+          own (Some inner) = refl
 
   -- where none holds, the symbol is in its place
   pub given_none : NoneOf (ten_conditions r g k) → step_of r g ≡ move r.phase k r
@@ -70,10 +68,10 @@ module _ (r : Reader) (g : Reading) (t : Taken r g) (awake : is_dropping r.phase
 abbrev Silent : Answer → Type 0
 Silent a = a.said.violation ≡ none
 
-user_silent : (d : DataPacket) (p : PriorityPacket) (b : ℕ) (r : Reader) → Silent (user_byte d p b r)
-user_silent d (InPriority o n c) b r = refl
-user_silent (InData h x c) NoPriority b r = refl
-user_silent NoData NoPriority b r = refl
+user_silent : (d : OpenData) (p : OpenPriority) (b : ℕ) (r : Reader) → Silent (user_byte d p b r)
+user_silent d (Some inner) b r = refl
+user_silent (Some outer) None b r = refl
+user_silent None None b r = refl
 
 free_silent : (k : Kind) (r : Reader) → Silent (free_move k r)
 free_silent (Data b) r = user_silent r.packet r.priority b r
@@ -89,9 +87,9 @@ lmp_silent t n =
     either (λ (s : Said). s.violation ≡ none) (eqb (t / 16) 2 && (ltb (t % 16) 2 && eqb (n / 16) 0)) (replied (eqb (t % 16) 1) (n % 16)) nothing
     (λ e. refl) (λ e. refl)
 
-own_silent : (bad : Bool) (p : PriorityPacket) (r : Reader) → Silent (closes_own (ended bad) p r)
-own_silent bad NoPriority r = refl
-own_silent bad (InPriority o n c) r = refl
+own_silent : (bad : Bool) (p : OpenPriority) (r : Reader) → Silent (closes_own (ended bad) p r)
+own_silent bad None r = refl
+own_silent bad (Some inner) r = refl
 
 due_silent : (d : Due) (b : ℕ) (r : Reader) → Silent (due_move d b r)
 due_silent Channel b r = refl
@@ -117,9 +115,9 @@ broken_said n r =
     Says : Answer → Type 0
     Says a = a.said.violation ≡ some n
 
-    own : (p : PriorityPacket) → (closes_own (violated n) p r).said.violation ≡ some n
-    own NoPriority = refl
-    own (InPriority o c x) = refl
+    own : (p : OpenPriority) → (closes_own (violated n) p r).said.violation ≡ some n
+    own None = refl
+    own (Some inner) = refl
 
 dropped_silent : (g : Reading) (k : Kind) (r : Reader) → Silent (dropped g k r)
 unfolding dropped
@@ -153,20 +151,20 @@ module _ (r : Reader) (g : Reading) where
   seven_closes_nothing h = ap (λ (a : Answer). a.reader) (after_violation r g 7 h)
 
   -- 6 closes the packet it belongs to: a nested priority packet, and the data packet goes on
-  pub six_closes_priority : (o n c : ℕ) → r.priority ≡ InPriority o n c → (step_of r g).said.violation ≡ some 6
-      → (step_of r g).reader ≡ record { size = r.size; packet = r.packet; priority = NoPriority; phase = Free }
+  pub six_closes_priority : (o n c : ℕ) → r.priority ≡ open_priority o n c → (step_of r g).said.violation ≡ some 6
+      → (step_of r g).reader ≡ record { size = r.size; packet = r.packet; priority = None; phase = Free }
   unfolding broken
   six_closes_priority o n c p h = ap (λ (a : Answer). a.reader) (after_violation r g 6 h) ∙ simp p
 
   -- or the data packet where no priority packet is open
-  pub six_closes_data : r.priority ≡ NoPriority → (step_of r g).said.violation ≡ some 6
-      → (step_of r g).reader ≡ record { size = r.size; packet = NoData; priority = NoPriority; phase = Free }
+  pub six_closes_data : r.priority ≡ None → (step_of r g).said.violation ≡ some 6
+      → (step_of r g).reader ≡ record { size = r.size; packet = None; priority = None; phase = Free }
   unfolding broken
   six_closes_data p h = ap (λ (a : Answer). a.reader) (after_violation r g 6 h) ∙ simp p
 
   -- every other one closes all open packets, and the reader then drops
   pub others_close_all : (n : ℕ) → (n ≡ 6 → ⊥) → (n ≡ 7 → ⊥) → (step_of r g).said.violation ≡ some n
-      → (step_of r g).reader ≡ record { size = r.size; packet = NoData; priority = NoPriority; phase = Dropping }
+      → (step_of r g).reader ≡ record { size = r.size; packet = None; priority = None; phase = Dropping }
   unfolding broken
   others_close_all n six seven h = ap (λ (a : Answer). a.reader) (after_violation r g n h) ∙ simp (ne_eqb n 7 seven, ne_eqb n 6 six)
 

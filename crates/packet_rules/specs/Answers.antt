@@ -1,12 +1,14 @@
 -- What the answers say, in document 01's numbers and values.
-use Rattle.std.specs.Prelude.{ℕ, Bool}
+use Rattle.std.specs.Prelude.{ℕ, Bool, Result, Ok, Err}
 use Rattle.std.proofs.Math.Option.{Option, none, some}
+use Rattle.refusal.specs.declared.Refusal.{Refusal}
+use Rattle.refusal.specs.Order.{number_of}
 use Rattle.packet_rules.specs.declared.Event.{Event}
-use Rattle.packet_rules.specs.declared.Event.TheVariants.{Nothing, StartData, StartPriority, Byte, End, Lmp, Violation, Refused}
+use Rattle.packet_rules.specs.declared.Event.TheVariants.{Nothing, StartData, StartPriority, Byte, End, Lmp, Violation as Violates}
+use Rattle.packet_rules.specs.declared.Violation.{Violation}
+use Rattle.packet_rules.specs.declared.Violation.TheVariants.{Invalid, WrongDisparity, Unsupported, OutOfPlace, Channel, Crc, LmpCheck, NoByte, Outside, TooLong}
 use Rattle.packet_rules.specs.declared.Reader.{Reader}
 use Rattle.packet_rules.specs.declared.Step.{Step}
-use Rattle.packet_rules.specs.declared.FreshReader.{FreshReader}
-use Rattle.packet_rules.specs.declared.FreshReader.TheVariants.{Ready, Refused as NotMade}
 
 -- the channel, and the segment number if priority
 pub record Start : Type 0 where
@@ -47,6 +49,19 @@ violated n = record { refusal = none; violation = some n; start = none; byte = n
 abbrev pub refused : ℕ → Said
 refused n = record { refusal = some n; violation = none; start = none; byte = none; end = none; lmp = none }
 
+-- each violation's number
+abbrev pub violation_number : Violation → ℕ
+violation_number Invalid = 1
+violation_number WrongDisparity = 2
+violation_number Unsupported = 3
+violation_number OutOfPlace = 4
+violation_number Channel = 5
+violation_number Crc = 6
+violation_number LmpCheck = 7
+violation_number NoByte = 8
+violation_number Outside = 9
+violation_number TooLong = 10
+
 abbrev pub event_says : Event → Said
 event_says Nothing = nothing
 event_says (StartData c) = started c none
@@ -54,8 +69,12 @@ event_says (StartPriority c n) = started c (some n)
 event_says (Byte b) = gave_byte b
 event_says (End bad) = ended bad
 event_says (Lmp nack n) = replied nack n
-event_says (Violation n) = violated n
-event_says (Refused n) = refused n
+event_says (Violates v) = violated (violation_number v)
+
+-- of a step that may be refused
+abbrev pub answer_says : Result Event Refusal → Said
+answer_says (Ok e) = event_says e
+answer_says (Err r) = refused (number_of r)
 
 -- of a step: what it says, and the state it hands back
 pub record Answer : Type 0 where
@@ -76,6 +95,6 @@ made r = record { refusal = none; reader = some r }
 abbrev pub not_made : ℕ → Made
 not_made n = record { refusal = some n; reader = none }
 
-abbrev pub fresh_says : FreshReader → Made
-fresh_says (Ready r) = made r
-fresh_says (NotMade n) = not_made n
+abbrev pub fresh_says : Result Reader Refusal → Made
+fresh_says (Ok r) = made r
+fresh_says (Err e) = not_made (number_of e)

@@ -1,4 +1,5 @@
 pub mod Answers
+pub mod Open
 pub mod State
 pub mod Symbols
 pub mod Violations

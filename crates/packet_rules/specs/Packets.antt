@@ -1,14 +1,14 @@
 -- What writing a packet comes to: its symbols, their characters from a disparity, the refusals, and what the output holds afterwards.
-use Rattle.std.specs.Prelude.{ℕ, ◌+◌, ◌*◌, Bool, cond, not, List, [], ◌∷◌, ◌++◌, map, eqb, ltb, ℤ, length, drop}
+use Rattle.std.specs.Prelude.{ℕ, ◌+◌, ◌*◌, Bool, cond, not, List, [], ◌∷◌, ◌++◌, map, eqb, ltb, ℤ, length, drop, Result, Ok, Err}
 use Rattle.std.proofs.Math.Option.{Option, none, some}
 use Rattle.std.specs.Int.Bits.{bit_xor}
-use Rattle.refusal.specs.Order.{Check, check, outcome, left}
+use Rattle.refusal.specs.declared.Refusal.{Refusal}
+use Rattle.refusal.specs.Order.{Check, check, outcome, left, number_of}
 use Rattle.symbol.specs.Symbols.{data_symbol}
 use Rattle.symbol.specs.declared.Symbol.{Symbol}
 use Rattle.character_rules.specs.Disparity.{is_disparity}
 use Rattle.character_rules.specs.Writing.{characters_of, closing_of}
 use Rattle.packet_rules.specs.declared.Written.{Written}
-use Rattle.packet_rules.specs.declared.Written.TheVariants.{Done, Refused}
 use Rattle.segment_size.specs.Sizes.{size_allowed}
 use Rattle.packet_rules.specs.Answers.{Said, nothing, started, gave_byte, replied}
 use Rattle.packet_rules.specs.Line.{SPP, SDP, SLP, closing, closing_said}
@@ -56,9 +56,9 @@ wrote n e = record { refusal = none; count = some n; disparity = some e }
 abbrev pub not_wrote : ℕ → PacketWriting
 not_wrote n = record { refusal = some n; count = none; disparity = none }
 
-abbrev pub written_says : Written → PacketWriting
-written_says (Done n e) = wrote n e
-written_says (Refused n) = not_wrote n
+abbrev pub written_says : Result Written Refusal → PacketWriting
+written_says (Ok w) = wrote w.count w.disparity
+written_says (Err r) = not_wrote (number_of r)
 
 unfoldable pub packet_writing : ℕ → Packet → ℤ → List ℕ → PacketWriting
 packet_writing s p d out = outcome (packet_checks s p d (length out)) not_wrote (wrote (length (symbols_of p)) (closing_of (symbols_of p) d))

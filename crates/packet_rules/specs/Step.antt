@@ -1,5 +1,5 @@
 -- What the reader answers to one character result, and the state it goes to.
-use Rattle.std.specs.Prelude.{ℕ, ◌-◌, ◌/◌, ◌%◌, Bool, true, false, cond, not, ◌&&◌, List, [], ◌∷◌, eqb, ltb, leb, ℤ}
+use Rattle.std.specs.Prelude.{ℕ, ◌-◌, ◌/◌, ◌%◌, Bool, true, false, cond, not, ◌&&◌, List, [], ◌∷◌, eqb, ltb, leb, ℤ, Some, None}
 use Rattle.std.proofs.Math.Option.{Option, none, some}
 use Rattle.refusal.specs.Order.{Check, check, outcome}
 use Rattle.symbol.specs.Symbols.{is_symbol}
@@ -10,10 +10,7 @@ use Rattle.packet_rules.specs.declared.Opener.{Opener}
 use Rattle.packet_rules.specs.declared.Opener.TheVariants.{Sdp, Spp, Slp}
 use Rattle.packet_rules.specs.declared.Kind.{Kind}
 use Rattle.packet_rules.specs.declared.Kind.TheVariants.{Data, Idl, Com, Opens, Closes, NoPlace, Unsupported}
-use Rattle.packet_rules.specs.declared.DataPacket.{DataPacket}
-use Rattle.packet_rules.specs.declared.DataPacket.TheVariants.{NoData, InData}
-use Rattle.packet_rules.specs.declared.PriorityPacket.{PriorityPacket}
-use Rattle.packet_rules.specs.declared.PriorityPacket.TheVariants.{NoPriority, InPriority}
+use Rattle.packet_rules.specs.Open.{OpenData, OpenPriority, open_data, open_priority}
 use Rattle.packet_rules.specs.declared.Due.{Due}
 use Rattle.packet_rules.specs.declared.Due.TheVariants.{Channel, Opening, Closing, FirstCrc, SecondCrc, LmpType, LmpNumber, LmpCheck}
 use Rattle.packet_rules.specs.declared.Phase.{Phase}
@@ -24,13 +21,13 @@ use Rattle.packet_rules.specs.State.{outside, fed_priority, fed_data, well_forme
 use Rattle.packet_rules.specs.Symbols.{kind_of}
 use Rattle.packet_rules.specs.Violations.{violation_of}
 
-abbrev pub answer : Said → DataPacket → PriorityPacket → Phase → Reader → Answer
+abbrev pub answer : Said → OpenData → OpenPriority → Phase → Reader → Answer
 answer said d p w r = record { said = said; reader = record { size = r.size; packet = d; priority = p; phase = w } }
 
 -- ---- a symbol in its place, where no sequence is begun
 
 -- user bytes are given as they come; outside packets D0.0 is fill and is dropped
-abbrev pub user_byte : DataPacket → PriorityPacket → ℕ → Reader → Answer
+abbrev pub user_byte : OpenData → OpenPriority → ℕ → Reader → Answer
 user_byte d p b r = answer (cond (outside d p) nothing (gave_byte b)) (fed_data d p b) (fed_priority p b) Free r
 
 -- what comes after a symbol that opens
@@ -51,9 +48,9 @@ free_move Unsupported r = answer nothing r.packet r.priority Free r
 -- ---- the byte that is due
 
 -- the packet to which an end belongs is closed
-abbrev pub closes_own : Said → PriorityPacket → Reader → Answer
-closes_own said (InPriority o n c) r = answer said r.packet NoPriority Free r
-closes_own said NoPriority r = answer said NoData NoPriority Free r
+abbrev pub closes_own : Said → OpenPriority → Reader → Answer
+closes_own said (Some inner) r = answer said r.packet None Free r
+closes_own said None r = answer said None None Free r
 
 -- type 2 is retry: parameter 0 is ACK, 1 NACK; a nonzero reserved field, another type or another parameter is dropped
 abbrev pub lmp_said : ℕ → ℕ → Said
@@ -61,8 +58,8 @@ lmp_said t n = cond (eqb (t / 16) 2 && (ltb (t % 16) 2 && eqb (n / 16) 0)) (repl
 
 -- a start comes at the channel byte (the byte after SPP), an end at the second CRC byte, an LMP at its check byte
 abbrev pub due_move : Due → ℕ → Reader → Answer
-due_move Channel b r = answer (started b none) (InData b false crc_start) r.priority Free r
-due_move Opening b r = answer (started (b % 16) (some (b / 16))) r.packet (InPriority b 0 crc_start) Free r
+due_move Channel b r = answer (started b none) (open_data b false crc_start) r.priority Free r
+due_move Opening b r = answer (started (b % 16) (some (b / 16))) r.packet (open_priority b 0 crc_start) Free r
 due_move (Closing bad) b r = answer nothing r.packet r.priority (Next (FirstCrc bad)) r
 due_move (FirstCrc bad) b r = answer nothing r.packet r.priority (Next (SecondCrc bad b)) r
 due_move (SecondCrc bad a) b r = closes_own (ended bad) r.priority r
@@ -99,7 +96,7 @@ unfoldable pub broken : ℕ → Reader → Answer
 broken n r =
     cond (eqb n 7) (answer (violated n) r.packet r.priority Free r)
     (cond (eqb n 6) (closes_own (violated n) r.priority r)
-    (answer (violated n) NoData NoPriority Dropping r))
+    (answer (violated n) None None Dropping r))
 
 -- ---- dropping: no event until a clean SDP, SPP or SLP
 

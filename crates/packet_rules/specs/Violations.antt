@@ -1,14 +1,12 @@
 -- The ten violations, each by a condition of its own; where several fit, the lowest.
-use Rattle.std.specs.Prelude.{ℕ, suc, Bool, true, false, cond, not, ◌&&◌, List, [], ◌∷◌, eqb, leb, get_or}
+use Rattle.std.specs.Prelude.{ℕ, suc, Bool, true, false, cond, not, ◌&&◌, List, [], ◌∷◌, eqb, leb, get_or, Some, None}
 use Rattle.std.specs.Int.Bits.{bit_xor}
 use Rattle.character_rules.specs.Answers.{Reading}
 use Rattle.crc.specs.Crc16.{check_bytes_of}
 use Rattle.packet_rules.specs.declared.Opener.TheVariants.{Sdp, Spp, Slp}
 use Rattle.packet_rules.specs.declared.Kind.{Kind}
 use Rattle.packet_rules.specs.declared.Kind.TheVariants.{Data, Idl, Com, Opens, Closes, NoPlace, Unsupported}
-use Rattle.packet_rules.specs.declared.DataPacket.{DataPacket}
-use Rattle.packet_rules.specs.declared.PriorityPacket.{PriorityPacket}
-use Rattle.packet_rules.specs.declared.PriorityPacket.TheVariants.{NoPriority, InPriority}
+use Rattle.packet_rules.specs.Open.{OpenData, OpenPriority}
 use Rattle.packet_rules.specs.declared.Due.{Due}
 use Rattle.packet_rules.specs.declared.Due.TheVariants.{Channel, Opening, Closing, FirstCrc, SecondCrc, LmpType, LmpNumber, LmpCheck}
 use Rattle.packet_rules.specs.declared.Phase.{Phase}
@@ -34,7 +32,7 @@ due Dropping holds = false
 -- ---- 4: who may not stand where
 
 -- neither kind stands in its own kind, nor data in priority; an end belongs to a packet; ALN, SUP, CDP and CPP never
-abbrev pub may_not_stand : Kind → DataPacket → PriorityPacket → Bool
+abbrev pub may_not_stand : Kind → OpenData → OpenPriority → Bool
 may_not_stand (Data b) d p = false
 may_not_stand Idl d p = false
 may_not_stand Com d p = false
@@ -46,7 +44,7 @@ may_not_stand NoPlace d p = true
 may_not_stand Unsupported d p = false
 
 -- and no sequence is broken into: a byte that is due is data, and after COM it is IDL
-abbrev pub out_of_place : Phase → Kind → DataPacket → PriorityPacket → Bool
+abbrev pub out_of_place : Phase → Kind → OpenData → OpenPriority → Bool
 out_of_place Free k d p = may_not_stand k d p
 out_of_place (Next due) k d p = not (is_data k (λ b. true))
 out_of_place (Idles n) k d p = not (is_idl k)
@@ -90,9 +88,9 @@ lmp_differs (LmpNumber t) b = false
 lmp_differs (LmpCheck t n) b = not (eqb b (bit_xor t n))
 
 -- ---- 10: S bytes have come
-abbrev pub is_full : ℕ → PriorityPacket → Bool
-is_full s NoPriority = false
-is_full s (InPriority o n c) = leb s n
+abbrev pub is_full : ℕ → OpenPriority → Bool
+is_full s None = false
+is_full s (Some inner) = leb s inner.count
 
 -- ---- 3 to 10, and all ten, in their order
 

@@ -13,78 +13,53 @@ fn is_start(register: u16) -> bool
     register == crc::start()
 }
 
-fn data_rule(d: DataPacket) -> bool
+fn data_rule(d: Option<DataPacket>) -> bool
     ensures { result ≡ data_rule d }
 {
     match d {
-        DataPacket::NoData => true,
-        DataPacket::InData {
-            begun,
-            register,
-            ..
-        } => { if begun { true } else { is_start(register) } }
+        None => true,
+        Some(outer) => outer.begun || is_start(outer.register),
     }
 }
 
-fn priority_rule(size: u16, p: PriorityPacket) -> bool
+fn priority_rule(size: u16, p: Option<PriorityPacket>) -> bool
     ensures { result ≡ priority_rule size p }
 {
     match p {
-        PriorityPacket::NoPriority => true,
-        PriorityPacket::InPriority {
-            count,
-            register,
-            ..
-        } => {
-            if count <= size {
-                if 0 < count { true } else { is_start(register) }
-            } else {
-                false
-            }
-        }
+        None => true,
+        Some(inner) => inner.count <= size && (0 < inner.count || is_start(inner.register)),
     }
 }
 
-fn due_rule(d: DataPacket, p: PriorityPacket, due: Due) -> bool
-    ensures { result ≡ due_rule d p due }
+fn due_rule(r: Reader, due: Due) -> bool
+    ensures { result ≡ due_rule r.packet r.priority due }
 {
     match due {
-        Due::Channel => packet_open::is_outside(d, p),
-        Due::Opening => packet_open::has_no_priority(p),
-        Due::Closing(_) => packet_open::has_byte(d, p),
-        Due::FirstCrc(_) => packet_open::has_byte(d, p),
-        Due::SecondCrc(_, _) => packet_open::has_byte(d, p),
-        Due::LmpType => true,
-        Due::LmpNumber(_) => true,
-        Due::LmpCheck(_, _) => true,
+        Due::Channel => packet_open::is_outside(r),
+        Due::Opening => packet_open::has_no_priority(r),
+        Due::Closing(_) | Due::FirstCrc(_) | Due::SecondCrc(_, _) => packet_open::has_byte(r),
+        Due::LmpType | Due::LmpNumber(_) | Due::LmpCheck(_, _) => true,
     }
 }
 
-fn phase_rule(d: DataPacket, p: PriorityPacket, phase: Phase) -> bool
-    ensures { result ≡ phase_rule d p phase }
+fn phase_rule(r: Reader) -> bool
+    ensures { result ≡ phase_rule r.packet r.priority r.phase }
 {
-    match phase {
+    match r.phase {
         Phase::Free => true,
-        Phase::Next(due) => due_rule(d, p, due),
-        Phase::Idles(n) => if 0 < n { n <= 3 } else { false },
-        Phase::Dropping => packet_open::is_outside(d, p),
+        Phase::Next(due) => due_rule(r, due),
+        Phase::Idles(n) => 0 < n && n <= 3,
+        Phase::Dropping => packet_open::is_outside(r),
     }
 }
 
 // The written rule, which every state handed out keeps.
+#[tactic(auto, unfolding(packet_rules::specs::State::well_formed))]
 pub fn is_well_formed(r: Reader) -> bool
     ensures { result ≡ well_formed r }
 {
-    let size = r.size;
-    let d = r.packet;
-    let p = r.priority;
-    let phase = r.phase;
-    if segment_size::size_is_allowed(size as u32) {
-        if data_rule(d) {
-            if priority_rule(size, p) {
-                return phase_rule(d, p, phase);
-            }
-        }
-    }
-    false
+    segment_size::size_is_allowed(u32::from(r.size))
+        && data_rule(r.packet)
+        && priority_rule(r.size, r.priority)
+        && phase_rule(r)
 }

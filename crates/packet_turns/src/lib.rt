@@ -2,120 +2,83 @@
 #![tactic(auto)]
 
 ghost use Rattle.std.specs.Prelude.{◌≡◌};
-ghost use Rattle.packet_turns.specs.Turns.{byte_in, byte_in_data, end_in, may_start, free_of};
+ghost use Rattle.packet_turns.specs.Turns.{byte_in, end_in, may_start, free_of};
 
-use packet_rules::{DataPacket, Due, Event, Kind, Opener, Phase, PriorityPacket, Reader, Step};
+use packet_answers::{moved, violated};
+use packet_rules::{
+    DataPacket, Due, Event, Kind, Opener, Phase, PriorityPacket, Reader, Step, Violation,
+};
 
-fn data_byte(r: Reader, d: DataPacket, b: u8) -> Step
-    ensures { result ≡ byte_in_data d b r }
+fn user_byte(r: Reader, b: u8) -> Step
+    ensures { result ≡ byte_in r.packet r.priority b r }
 {
-    match d {
-        DataPacket::InData {
-            channel,
-            begun: _,
-            register,
-        } => {
-            let next = crc::step(register, b);
-            let packet = DataPacket::InData {
-                channel,
-                begun: true,
-                register: next,
-            };
-            let reader = Reader {
-                size: r.size,
-                packet,
-                priority: PriorityPacket::NoPriority,
-                phase: Phase::Free,
-            };
-            Step {
-                event: Event::Byte(b),
-                reader,
+    match (r.packet, r.priority) {
+        (_, Some(inner)) => {
+            if r.size <= inner.count {
+                return violated(Violation::TooLong, r);
             }
+            let priority = Some(PriorityPacket {
+                count: inner.count + 1,
+                register: crc::step(inner.register, b),
+                ..inner
+            });
+            moved(Event::Byte(b), Phase::Free, Reader { priority, ..r })
         }
-        DataPacket::NoData => match b {
-            0 => packet_answers::moved(Event::Nothing, Phase::Free, r),
-            1..=255 => packet_answers::violated(9, r),
+        (Some(outer), None) => {
+            let packet = Some(DataPacket {
+                begun: true,
+                register: crc::step(outer.register, b),
+                ..outer
+            });
+            moved(Event::Byte(b), Phase::Free, Reader { packet, ..r })
+        }
+        (None, None) => match b {
+            0 => moved(Event::Nothing, Phase::Free, r),
+            _ => violated(Violation::Outside, r),
         },
     }
 }
 
-fn user_byte(r: Reader, d: DataPacket, p: PriorityPacket, b: u8) -> Step
-    ensures { result ≡ byte_in d p b r }
+fn end_symbol(r: Reader, bad: bool) -> Step
+    ensures { result ≡ end_in r.packet r.priority bad r }
 {
-    let size = r.size;
-    match p {
-        PriorityPacket::InPriority {
-            opening,
-            count,
-            register,
-        } => {
-            if size <= count {
-                packet_answers::violated(10, r)
-            } else {
-                let next = crc::step(register, b);
-                let n = count + 1;
-                let priority = PriorityPacket::InPriority {
-                    opening,
-                    count: n,
-                    register: next,
-                };
-                let reader = Reader {
-                    size,
-                    packet: d,
-                    priority,
-                    phase: Phase::Free,
-                };
-                Step {
-                    event: Event::Byte(b),
-                    reader,
-                }
-            }
-        }
-        PriorityPacket::NoPriority => data_byte(r, d, b),
-    }
-}
-
-fn end_symbol(r: Reader, d: DataPacket, p: PriorityPacket, bad: bool) -> Step
-    ensures { result ≡ end_in d p bad r }
-{
-    if packet_open::is_outside(d, p) {
-        return packet_answers::violated(4, r);
-    }
-    if packet_open::has_byte(d, p) {
-        packet_answers::moved(Event::Nothing, Phase::Next(Due::Closing(bad)), r)
+    if packet_open::is_outside(r) {
+        violated(Violation::OutOfPlace, r)
+    } else if packet_open::has_byte(r) {
+        moved(Event::Nothing, Phase::Next(Due::Closing(bad)), r)
     } else {
-        packet_answers::violated(8, r)
+        violated(Violation::NoByte, r)
     }
 }
 
-fn may_start(o: Opener, d: DataPacket, p: PriorityPacket) -> bool
-    ensures { result ≡ may_start o d p }
+fn may_start(o: Opener, r: Reader) -> bool
+    ensures { result ≡ may_start o r.packet r.priority }
 {
     match o {
-        Opener::Sdp => packet_open::is_outside(d, p),
-        Opener::Spp => packet_open::has_no_priority(p),
+        Opener::Sdp => packet_open::is_outside(r),
+        Opener::Spp => packet_open::has_no_priority(r),
         Opener::Slp => true,
     }
 }
 
+// One symbol where no byte and no idle is due.
+#[tactic(auto, unfolding(crate::specs::Turns::free_of))]
 pub fn free(r: Reader, k: Kind) -> Step
     ensures { result ≡ free_of k r }
 {
-    let d = r.packet;
-    let p = r.priority;
     match k {
-        Kind::Data(b) => user_byte(r, d, p, b),
-        Kind::Idl => packet_answers::moved(Event::Nothing, Phase::Free, r),
-        Kind::Com => packet_answers::moved(Event::Nothing, Phase::Idles(3), r),
+        Kind::Data(b) => user_byte(r, b),
+        Kind::Idl => moved(Event::Nothing, Phase::Free, r),
+        Kind::Com => moved(Event::Nothing, Phase::Idles(3), r),
         Kind::Opens(o) => {
-            if may_start(o, d, p) {
-                packet_answers::moved(Event::Nothing, Phase::Next(packet_answers::due_after(o)), r)
+            if may_start(o, r) {
+                moved(Event::Nothing, Phase::Next(packet_answers::due_after(o)), r)
             } else {
-                packet_answers::violated(4, r)
+                violated(Violation::OutOfPlace, r)
             }
         }
-        Kind::Closes(bad) => end_symbol(r, d, p, bad),
-        Kind::NoPlace => packet_answers::violated(4, r),
-        Kind::Unsupported => packet_answers::violated(3, r),
+        Kind::Closes(bad) => end_symbol(r, bad),
+        Kind::NoPlace => violated(Violation::OutOfPlace, r),
+        Kind::Unsupported => violated(Violation::Unsupported, r),
     }
 }

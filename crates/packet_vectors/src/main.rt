@@ -5,15 +5,17 @@
 ghost use Rattle.std.specs.Prelude.{◌≤◌, IfOk, length};
 
 use character_rules::Decoded;
-use packet_rules::{Event, FreshReader, Reader};
-use std::io;
+use packet_rules::{Event, Reader};
+use refusal::Refusal;
 use std::io::Read;
+use std::{fmt, io};
 use symbol::Symbol;
 
 // The bytes of a script that are read.
 const MOST_READ: usize = 65536;
 
-// Reads until the buffer is full or the input ends, and answers how many bytes came.
+// Reads until the buffer is full or the input ends, and answers how many bytes came. Each program that reads has this for itself: what stands on the
+// input no equation says, and a contract of a library's public function is equations alone.
 fn read_full(rt: &impl Input, buf: &mut [u8]) -> io::Result<usize>
     ensures { IfOk result (λ n. n ≤ length buf.old) }
 {
@@ -32,113 +34,70 @@ fn read_full(rt: &impl Input, buf: &mut [u8]) -> io::Result<usize>
     Ok(n)
 }
 
-fn word(rt: &impl Print, w: &str) -> io::Result<()> {
-    print!(rt; "{w}")
-}
+// What a step answers, as a line says it.
+#[derive(Clone, Copy)]
+struct Line(Result<Event, Refusal>);
 
-fn number(rt: &impl Print, n: u8) -> io::Result<()> {
-    word(rt, " ")?;
-    print!(rt; "{n}")
-}
-
-fn mark(rt: &impl Print, b: bool) -> io::Result<()> {
-    if b { word(rt, " 1") } else { word(rt, " 0") }
-}
-
-fn print_event(rt: &impl Print, e: Event) -> io::Result<()> {
-    match e {
-        Event::Nothing => word(rt, "nothing")?,
-        Event::StartData(channel) => {
-            word(rt, "start data")?;
-            number(rt, channel)?;
-        }
-        Event::StartPriority { channel, segment } => {
-            word(rt, "start priority")?;
-            number(rt, channel)?;
-            number(rt, segment)?;
-        }
-        Event::Byte(b) => {
-            word(rt, "byte")?;
-            number(rt, b)?;
-        }
-        Event::End { bad } => {
-            word(rt, "end")?;
-            mark(rt, bad)?;
-        }
-        Event::Lmp { nack, segment } => {
-            word(rt, "lmp")?;
-            mark(rt, nack)?;
-            number(rt, segment)?;
-        }
-        Event::Violation(n) => {
-            word(rt, "violation")?;
-            number(rt, n)?;
-        }
-        Event::Refused(n) => {
-            word(rt, "refused")?;
-            number(rt, n)?;
+impl fmt::Display for Line {
+    fn fmt<W: fmt::Write>(&self, f: &mut fmt::Formatter<W>) -> fmt::Result {
+        match self.0 {
+            Ok(Event::Nothing) => f.write_str("nothing"),
+            Ok(Event::StartData(channel)) => write!(f, "start data {channel}"),
+            Ok(Event::StartPriority { channel, segment }) => {
+                write!(f, "start priority {channel} {segment}")
+            }
+            Ok(Event::Byte(b)) => write!(f, "byte {b}"),
+            Ok(Event::End { bad }) => write!(f, "end {}", u8::from(bad)),
+            Ok(Event::Lmp { nack, segment }) => write!(f, "lmp {} {segment}", u8::from(nack)),
+            Ok(Event::Violation(v)) => write!(f, "violation {}", v.number()),
+            Err(refusal) => write!(f, "{refusal}"),
         }
     }
-    word(rt, "\n")
 }
 
-// The character result that a call of the script brings.
-fn result_of(call: u8, byte: u8) -> Decoded {
+// What a call of the script asks for.
+#[derive(Clone, Copy)]
+enum Call {
+    Step(Result<Decoded, Refusal>),
+    // With S.
+    Fresh(u32),
+}
+
+impl Call {
+    // By its two bytes.
+    fn of(kind: u8, byte: u8) -> Call {
+        match kind {
+            0 => Call::Step(Ok(Decoded::Clean(Symbol::data(byte), 1))),
+            1 => Call::Step(Ok(Decoded::Clean(Symbol::control(byte), 1))),
+            2 => Call::Step(Ok(Decoded::WrongDisparity(Symbol::data(byte), 1))),
+            3 => Call::Step(Ok(Decoded::WrongDisparity(Symbol::control(byte), 1))),
+            4 => Call::Step(Ok(Decoded::Invalid(1))),
+            6 => Call::Fresh(u32::from(byte) * 8),
+            _ => Call::Step(Err(Refusal::OutOfRange)),
+        }
+    }
+}
+
+// A fresh reader takes the place of the one that there was.
+fn one_call(rt: &impl Print, call: Call, reader: &mut Reader) -> io::Result<()> {
     match call {
-        0 => Decoded::Clean(Symbol::data(byte), 1),
-        1 => Decoded::Clean(Symbol::control(byte), 1),
-        2 => Decoded::WrongDisparity(Symbol::data(byte), 1),
-        3 => Decoded::WrongDisparity(Symbol::control(byte), 1),
-        4 => Decoded::Invalid(1),
-        _ => Decoded::Refused(1),
-    }
-}
-
-// A fresh reader with S, or the one that there was.
-fn fresh_or(rt: &impl Print, size: u32, reader: Reader) -> io::Result<Reader> {
-    match packet_reader::fresh(size) {
-        FreshReader::Ready(r) => {
-            word(rt, "fresh\n")?;
-            Ok(r)
+        Call::Step(res) => {
+            let line = Line(packet_reader::step(reader, res));
+            println!(rt; "{line}")
         }
-        FreshReader::Refused(n) => {
-            word(rt, "not fresh")?;
-            number(rt, n)?;
-            word(rt, "\n")?;
-            Ok(reader)
-        }
+        Call::Fresh(size) => match packet_reader::fresh(size) {
+            Ok(fresh) => {
+                *reader = fresh;
+                println!(rt; "fresh")
+            }
+            Err(refusal) => println!(rt; "not fresh {}", refusal.number()),
+        },
     }
 }
 
-fn one_call(rt: &impl Print, call: u8, byte: u8, reader: Reader) -> io::Result<Reader> {
-    if call == 6 {
-        return fresh_or(rt, (byte as u32) * 8, reader);
-    }
-    let step = packet_reader::step(reader, result_of(call, byte));
-    let event = step.event;
-    let next = step.reader;
-    print_event(rt, event)?;
-    Ok(next)
-}
-
-// What stands at a place of the script; past its end 0.
-fn at(script: &[u8], i: usize) -> u8 {
-    if i < script.len() {
-        return script[i];
-    }
-    0
-}
-
-fn run(rt: &impl Print, script: &[u8], n: usize, reader: Reader) -> io::Result<()> {
-    let mut r = reader;
-    let mut i = 0u16;
-    while i < 32768 {
-        if n <= (i as usize) {
-            break;
-        }
-        let k = 2 * (i as usize);
-        r = one_call(rt, at(script, k), at(script, k + 1), r)?;
-        i += 1;
+fn run(rt: &impl Print, script: &[u8], reader: &mut Reader) -> io::Result<()> {
+    for pair in script.chunks_exact(2) {
+        one_call(rt, Call::of(pair[0], pair[1]), reader)?;
     }
     Ok(())
 }
@@ -147,7 +106,7 @@ fn main(rt: HostRuntime) -> io::Result<()> {
     let mut script = [0u8; MOST_READ];
     let n = read_full(&rt, &mut script)?;
     match packet_reader::fresh(8) {
-        FreshReader::Ready(r) => run(&rt, &script, n / 2, r),
-        FreshReader::Refused(_) => word(&rt, "no reader\n"),
+        Ok(mut reader) => run(&rt, &script[..n], &mut reader),
+        Err(_) => println!(&rt; "no reader"),
     }
 }

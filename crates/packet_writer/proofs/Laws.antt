@@ -20,15 +20,15 @@ use Rattle.character_rules.specs.Writing.{writing, characters_of, closing_of}
 use Rattle.character_rules.specs.Demand.{can_write}
 use Rattle.character_rules.proofs.Trip.{writes}
 use Rattle.character_rules.proofs.WriteLaws.{closing_is, length_characters, characters_append, closes_append}
-use Rattle.packet_writer.specs.declared.Place.{Place}
+use Rattle.packet_rules.specs.declared.Written.{Written}
 use Rattle.packet_writer.specs.Writing.{Wrote}
 
-pub wrote_none : (p : Place) (old : List ℕ) → Wrote p [] old old p
+pub wrote_none : (p : Written) (old : List ℕ) → Wrote p [] old old p
 unfolding characters_of closing_of
 wrote_none p old =
     record {
-      line = sym (rw (add-zero) (take-append-drop p.at old));
-      next = ap (λ (n : ℕ). record { at = n; disparity = p.disparity }) (sym (add-zero p.at));
+      line = sym (rw (add-zero) (take-append-drop p.count old));
+      next = ap (λ (n : ℕ). record { count = n; disparity = p.disparity }) (sym (add-zero p.count));
     }
 
 -- two parts of lists, one after the other
@@ -45,36 +45,36 @@ paste_paste a i j l m old mid h el e =
     ∙ append_assoc (take a old) l (m ++ drop (a + (i + j)) old)
     ∙ ap (λ (x : List ℕ). take a old ++ x) (sym (append_assoc l m (drop (a + (i + j)) old)))
 
-then : (p : Place) {s : Place} (xs ys : List Symbol) {old mid new : List ℕ} → p.at + length xs ≤ length old
-    → mid ≡ take p.at old ++ (characters_of xs p.disparity ++ drop (p.at + length xs) old)
-    → Wrote (record { at = p.at + length xs; disparity = closing_of xs p.disparity }) ys mid new s → Wrote p (xs ++ ys) old new s
+then : (p : Written) {s : Written} (xs ys : List Symbol) {old mid new : List ℕ} → p.count + length xs ≤ length old
+    → mid ≡ take p.count old ++ (characters_of xs p.disparity ++ drop (p.count + length xs) old)
+    → Wrote (record { count = p.count + length xs; disparity = closing_of xs p.disparity }) ys mid new s → Wrote p (xs ++ ys) old new s
 then p {s} xs ys {old} {mid} {new} h e v =
     let d = p.disparity in
     record {
-      line = v.line ∙ paste_paste p.at (length xs) (length ys) (characters_of xs d) (characters_of ys (closing_of xs d)) old mid h (length_characters xs d) e
-          ∙ ap₂ (λ (x : List ℕ) (k : ℕ). take p.at old ++ (x ++ drop (p.at + k) old)) (sym (characters_append xs ys d)) (sym (length-append xs ys));
-      next = v.next ∙ ap₂ (λ (n : ℕ) (z : ℤ). record { at = n; disparity = z })
-          (add_assoc p.at (length xs) (length ys) ∙ ap (λ (k : ℕ). p.at + k) (sym (length-append xs ys))) (sym (closes_append xs ys d));
+      line = v.line ∙ paste_paste p.count (length xs) (length ys) (characters_of xs d) (characters_of ys (closing_of xs d)) old mid h (length_characters xs d) e
+          ∙ ap₂ (λ (x : List ℕ) (k : ℕ). take p.count old ++ (x ++ drop (p.count + k) old)) (sym (characters_append xs ys d)) (sym (length-append xs ys));
+      next = v.next ∙ ap₂ (λ (n : ℕ) (z : ℤ). record { count = n; disparity = z })
+          (add_assoc p.count (length xs) (length ys) ∙ ap (λ (k : ℕ). p.count + k) (sym (length-append xs ys))) (sym (closes_append xs ys d));
     }
 
-pub wrote_more : {p q s : Place} {xs ys : List Symbol} {old mid new : List ℕ}
-    → Wrote p xs old mid q → Wrote q ys mid new s → p.at + length xs ≤ length old → Wrote p (xs ++ ys) old new s
+pub wrote_more : {p q s : Written} {xs ys : List Symbol} {old mid new : List ℕ}
+    → Wrote p xs old mid q → Wrote q ys mid new s → p.count + length xs ≤ length old → Wrote p (xs ++ ys) old new s
 wrote_more {p} {q} {s} {xs} {ys} {old} {mid} {new} w v h =
-    then p xs ys h w.line (subst (λ (x : Place). Wrote x ys mid new s) w.next v)
+    then p xs ys h w.line (subst (λ (x : Written). Wrote x ys mid new s) w.next v)
 
 -- where the writing closes is a disparity again
-pub wrote_disparity : {p q : Place} {xs : List Symbol} {old new : List ℕ} → Wrote p xs old new q → T (is_disparity p.disparity) → T (is_disparity q.disparity)
-wrote_disparity {p} {q} {xs} w t = subst (λ (x : Place). T (is_disparity x.disparity)) (sym w.next) (closing_is xs p.disparity t)
+pub wrote_disparity : {p q : Written} {xs : List Symbol} {old new : List ℕ} → Wrote p xs old new q → T (is_disparity p.disparity) → T (is_disparity q.disparity)
+wrote_disparity {p} {q} {xs} w t = subst (λ (x : Written). T (is_disparity x.disparity)) (sym w.next) (closing_is xs p.disparity t)
 
 -- one character stored
-pub wrote_one : (p : Place) (x : Symbol) (old new : List ℕ) (q : Place) → p.at < length old
-    → new ≡ set old p.at (character x p.disparity) → q.at ≡ p.at + 1 → q.disparity ≡ closing x p.disparity → Wrote p (x ∷ []) old new q
+pub wrote_one : (p : Written) (x : Symbol) (old new : List ℕ) (q : Written) → p.count < length old
+    → new ≡ set old p.count (character x p.disparity) → q.count ≡ p.count + 1 → q.disparity ≡ closing x p.disparity → Wrote p (x ∷ []) old new q
 unfolding characters_of closing_of
 wrote_one p x old new q h e a z =
     record {
-      line = e ∙ set_split old p.at (character x p.disparity) h
-          ∙ ap (λ (k : ℕ). take p.at old ++ (character x p.disparity ∷ drop k old)) (sym (add-one p.at));
-      next = ap₂ (λ (n : ℕ) (y : ℤ). record { at = n; disparity = y }) a z;
+      line = e ∙ set_split old p.count (character x p.disparity) h
+          ∙ ap (λ (k : ℕ). take p.count old ++ (character x p.disparity ∷ drop k old)) (sym (add-one p.count));
+      next = ap₂ (λ (n : ℕ) (y : ℤ). record { count = n; disparity = y }) a z;
     }
 
 -- ---- what the character writer answers where it can write

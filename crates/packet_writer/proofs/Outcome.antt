@@ -7,46 +7,57 @@ use Prim.Native.Nat.{ℕ, ◌+◌, ◌*◌}
 use native.Mathlib.Nat.{zero-add}
 use lib.IntN.{ℤ}
 use lib.ListN.{length, drop}
-use Rattle.refusal.specs.Order.{refusal_of}
-use Rattle.refusal.proofs.Laws.{done, refused, hands_back}
+use Rattle.std.specs.Prelude.{Result, Ok, Err, IsOkAnd}
+use Rattle.refusal.specs.declared.Refusal.{Refusal}
+use Rattle.refusal.specs.Order.{number_of, refusal_of}
+use Rattle.refusal.proofs.Laws.{done, hands_back}
+use Rattle.refusal.proofs.Answers.{has_number, if_err}
+use native.Mathlib.Omega.{arith}
 use Rattle.character_rules.specs.Writing.{characters_of, closing_of}
 use Rattle.packet_rules.specs.Line.{SPP}
 use Rattle.packet_rules.specs.Packets.{Packet, in_priority, packet_symbols, symbols_of, packet_checks}
-use Rattle.packet_rules.specs.Packets.{wrote, not_wrote, packet_writing, packet_output}
-use Rattle.packet_writer.specs.declared.Place.{Place}
+use Rattle.packet_rules.specs.Packets.{wrote, not_wrote, written_says, packet_writing, packet_output}
+use Rattle.packet_rules.specs.declared.Written.{Written}
 use Rattle.packet_writer.specs.Writing.{Wrote}
 
 module _ (s : ℕ) (p : Packet) (d : ℤ) (old : List ℕ) where
   -- the output as it stood
-  pub refused_with : (n : ℕ) → refusal_of (packet_checks s p d (length old)) ≡ n → (n ≡ 0 → ⊥) → (not_wrote n ≡ packet_writing s p d old) × (old ≡ packet_output s p d old)
+  pub refused_with : (r : Refusal) → refusal_of (packet_checks s p d (length old)) ≡ number_of r
+      → (not_wrote (number_of r) ≡ packet_writing s p d old) × (old ≡ packet_output s p d old)
   unfolding packet_writing packet_output
-  refused_with n e h =
+  refused_with r e =
       let cs = packet_checks s p d (length old) in
       let ch = characters_of (symbols_of p) d ++ drop (length (symbols_of p)) old in
       let w = wrote (length (symbols_of p)) (closing_of (symbols_of p) d) in
-      let k : (refusal_of cs ≡ 0 → ⊥) = λ z. h (sym e ∙ z) in
-      (sym (refused cs not_wrote w k ∙ ap not_wrote e), sym (hands_back cs old ch k))
+      let k : (refusal_of cs ≡ 0 → ⊥) = λ z. let n = has_number r in let q = sym e ∙ z in omega (arith, n, q) in
+      (sym (if_err cs not_wrote w r (sym e)), sym (hands_back cs old ch k))
 
   -- all of the packet, and nothing past it
-  pub written_all : {new : List ℕ} {q : Place} → refusal_of (packet_checks s p d (length old)) ≡ 0
-      → Wrote (record { at = 0; disparity = d }) (symbols_of p) old new q
-      → (wrote q.at q.disparity ≡ packet_writing s p d old) × (new ≡ packet_output s p d old)
+  pub written_all : {new : List ℕ} (r : Result Written Refusal) → refusal_of (packet_checks s p d (length old)) ≡ 0
+      → IsOkAnd r (Wrote (record { count = 0; disparity = d }) (symbols_of p) old new)
+      → (written_says r ≡ packet_writing s p d old) × (new ≡ packet_output s p d old)
   unfolding packet_writing packet_output
-  written_all {new} {q} e w =
+  written_all (Err x) e w = absurd w
+  written_all (Ok q) e w =
       let cs = packet_checks s p d (length old) in
       let n = length (symbols_of p) in
       let ch = characters_of (symbols_of p) d ++ drop n old in (
-        ap (λ (x : Place). wrote x.at x.disparity) w.next ∙ ap (λ (m : ℕ). wrote m (closing_of (symbols_of p) d)) (zero-add n)
+        ap (λ (x : Written). wrote x.count x.disparity) w.next ∙ ap (λ (m : ℕ). wrote m (closing_of (symbols_of p) d)) (zero-add n)
             ∙ sym (done cs not_wrote (wrote n (closing_of (symbols_of p) d)) e),
         w.line ∙ ap (λ (m : ℕ). characters_of (symbols_of p) d ++ drop m old) (zero-add n) ∙ sym (done cs (λ m. old) ch e),
       )
 
 -- a priority packet by its opening byte
-pub priority_all : (s c g : ℕ) (bytes : List ℕ) (bad : Bool) (d : ℤ) (old : List ℕ) {new : List ℕ} {q : Place} (o : ℕ) → o ≡ 16 * g + c
+pub priority_all : (s c g : ℕ) (bytes : List ℕ) (bad : Bool) (d : ℤ) (old : List ℕ) {new : List ℕ} (r : Result Written Refusal) (o : ℕ) → o ≡ 16 * g + c
     → refusal_of (packet_checks s (in_priority c g bytes bad) d (length old)) ≡ 0
-    → Wrote (record { at = 0; disparity = d }) (packet_symbols SPP o bytes bad) old new q
-    → (wrote q.at q.disparity ≡ packet_writing s (in_priority c g bytes bad) d old) × (new ≡ packet_output s (in_priority c g bytes bad) d old)
+    → IsOkAnd r (Wrote (record { count = 0; disparity = d }) (packet_symbols SPP o bytes bad) old new)
+    → (written_says r ≡ packet_writing s (in_priority c g bytes bad) d old) × (new ≡ packet_output s (in_priority c g bytes bad) d old)
 unfolding symbols_of
-priority_all s c g bytes bad d old {new} {q} o e f w =
-    written_all s (in_priority c g bytes bad) d old f
-    (subst (λ (x : ℕ). Wrote (record { at = 0; disparity = d }) (packet_symbols SPP x bytes bad) old new q) e w)
+priority_all s c g bytes bad d old {new} r o e f w =
+    written_all s (in_priority c g bytes bad) d old r f
+    (subst (λ (x : ℕ). IsOkAnd r (Wrote (record { count = 0; disparity = d }) (packet_symbols SPP x bytes bad) old new)) e w)
+
+-- what holds of a value that was given
+pub ok_then : {P Q : Written → Type 0} (r : Result Written Refusal) → ((q : Written) → P q → Q q) → IsOkAnd r P → IsOkAnd r Q
+ok_then (Ok q) f p = f q p
+ok_then (Err e) f p = p

@@ -1,66 +1,72 @@
-// The service pane: a capture and a place in it. Each function over it takes it apart and leaves the work to one on the slice and the place.
+// The service pane: a capture and a place in it. Each method takes it apart and leaves the work to a function on the slice and the place.
 #![tactic(auto)]
 
-ghost use Rattle.std.specs.Prelude.{◌≡◌};
+ghost use Rattle.std.specs.Prelude.{◌≡◌, is_some, unwrap_or};
 ghost use Rattle.capture_rules.specs.Calls.{says, character_says};
-ghost use Rattle.capture_rules.specs.Panes.{place_says, forward_from, back_from};
+ghost use Rattle.capture_rules.specs.Panes.{place_says, moved_says, forward_from, back_from};
 
-use capture::character_at;
-use capture_rules::{Answer, Move};
-use pane_moves::{back_from, forward_from, place_in};
+use refusal::Refusal;
 
-#[derive(Clone, Copy)]
+#[derive(Clone, Copy, Debug)]
 pub struct Pane<'a> {
     pub capture: &'a [u8],
     pub place: usize,
 }
 
-// A pane at the capture's start.
-pub fn open<'a>(capture: &'a [u8]) -> Pane<'a>
-    ensures { (result.capture ≡ capture.entry) × (result.place ≡ 0) }
-{
-    Pane { capture, place: 0 }
-}
+impl<'a> Pane<'a> {
+    // A pane at the capture's start.
+    pub fn open(capture: &'a [u8]) -> Pane<'a>
+        ensures { (result.capture ≡ capture.entry) × (result.place ≡ 0) }
+    {
+        Pane { capture, place: 0 }
+    }
 
-// Where the pane stands.
-pub fn place<'a>(pane: Pane<'a>) -> Answer
-    ensures { says result ≡ place_says pane.entry.capture.now pane.entry.place }
-{
-    place_in(pane.capture, pane.place)
-}
+    // Where the pane stands.
+    pub fn place(self) -> Result<usize, Refusal>
+        ensures { says result ≡ place_says self.entry.capture.now self.entry.place }
+    {
+        pane_moves::place_in(self.capture, self.place)
+    }
 
-// The character that stands there.
-pub fn here<'a>(pane: Pane<'a>) -> Answer
-    ensures { says result ≡ character_says pane.entry.capture.now pane.entry.place }
-{
-    character_at(pane.capture, pane.place)
-}
+    // The character that stands there.
+    pub fn here(self) -> Result<u16, Refusal>
+        ensures { says result ≡ character_says self.entry.capture.now self.entry.place }
+    {
+        capture::character_at(self.capture, self.place)
+    }
 
-// Moves the pane forward, and says what came of it.
-pub fn forward<'s, 'a>(pane: &'s mut Pane<'a>) -> Move
-    ensures { (result ≡ forward_from pane.old.capture.now pane.old.place)
-        × (pane.new.capture ≡ pane.old.capture)
-        × (pane.new.place ≡ (forward_from pane.old.capture.now pane.old.place).place) }
-{
-    let m = forward_from(pane.capture, pane.place);
-    pane.place = m.place;
-    m
-}
+    // Goes where a move leads, if it leads anywhere, and says whether.
+    fn go(&mut self, to: Option<usize>) -> bool
+        ensures { (result ≡ is_some to) × (self.new.capture ≡ self.old.capture) × (self.new.place ≡ unwrap_or to self.old.place) }
+    {
+        self.place = to.unwrap_or(self.place);
+        to.is_some()
+    }
 
-// Moves the pane back, and says what came of it.
-pub fn back<'s, 'a>(pane: &'s mut Pane<'a>) -> Move
-    ensures { (result ≡ back_from pane.old.capture.now pane.old.place)
-        × (pane.new.capture ≡ pane.old.capture)
-        × (pane.new.place ≡ (back_from pane.old.capture.now pane.old.place).place) }
-{
-    let m = back_from(pane.capture, pane.place);
-    pane.place = m.place;
-    m
+    // Moves the pane forward, and says whether it moved.
+    pub fn forward(&mut self) -> Result<bool, Refusal>
+        ensures { (moved_says self.new.place result ≡ forward_from self.old.capture.now self.old.place)
+            × (self.new.capture ≡ self.old.capture)
+            × (self.new.place ≡ (forward_from self.old.capture.now self.old.place).place) }
+    {
+        let to = pane_moves::forward_from(self.capture, self.place)?;
+        Ok(self.go(to))
+    }
+
+    // Moves the pane back, and says whether it moved.
+    pub fn back(&mut self) -> Result<bool, Refusal>
+        ensures { (moved_says self.new.place result ≡ back_from self.old.capture.now self.old.place)
+            × (self.new.capture ≡ self.old.capture)
+            × (self.new.place ≡ (back_from self.old.capture.now self.old.place).place) }
+    {
+        let to = pane_moves::back_from(self.capture, self.place)?;
+        Ok(self.go(to))
+    }
 }
 
 // The character that a fresh pane shows.
-pub fn first(capture: &[u8]) -> Answer
+pub fn first(capture: &[u8]) -> Result<u16, Refusal>
     ensures { says result ≡ character_says capture.now 0 }
 {
-    here(open(capture))
+    Pane::open(capture).here()
 }

@@ -1,5 +1,26 @@
 -- Document 01, "Numbered refusals": which number a call is refused with, and what a refused call leaves.
-use Rattle.std.specs.Prelude.{ℕ, Bool, false, cond, ◌||◌, List, [], ◌∷◌, eqb}
+use Rattle.std.specs.Prelude.{ℕ, Bool, false, cond, ◌||◌, List, [], ◌∷◌, eqb, map, Result, Ok, Err}
+use Rattle.refusal.specs.declared.Refusal.{Refusal}
+use Rattle.refusal.specs.declared.Refusal.TheVariants.{OutOfRange, SegmentSize, NotWritable, NoBytes, Full, ShortOutput, LinkDown, BadCapture}
+
+-- each refusal's number in the table
+abbrev pub number_of : Refusal → ℕ
+number_of OutOfRange = 1
+number_of SegmentSize = 2
+number_of NotWritable = 3
+number_of NoBytes = 4
+number_of Full = 5
+number_of ShortOutput = 6
+number_of LinkDown = 7
+number_of BadCapture = 8
+
+abbrev pub order_says : List Refusal → List ℕ
+order_says rs = map number_of rs
+
+-- the number that an answer is refused with; 0: it is not refused
+abbrev pub refusal_says : {A : Type 0} → Result A Refusal → ℕ
+refusal_says (Ok x) = 0
+refusal_says (Err r) = number_of r
 
 -- order: 7 first, then 8, then 1 to 6
 abbrev pub order : List ℕ

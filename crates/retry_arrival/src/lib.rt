@@ -1,107 +1,103 @@
 // The arrival of a valid segment: what it is answered with, and what is delivered.
 #![tactic(auto)]
 
-ghost use Rattle.std.specs.Prelude.{◌≡◌, length};
-ghost use Rattle.refusal.specs.Order.{refusal_of};
-ghost use Rattle.retry_rules.specs.Arrival.{wanted, arrival_checks, delivery, arrival_of, arrival_output};
+ghost use Rattle.std.specs.Prelude.{◌≡◌, false, length};
+ghost use Rattle.refusal.specs.Order.{refusal_says, refusal_of};
+ghost use Rattle.retry_rules.specs.Answers.{reply_says, arrival_beside, arrival_says};
+ghost use Rattle.retry_rules.specs.Arrival.{wanted, arrival_checks, advanced, answer_to, arrival_of, arrival_output};
 
-use refusal;
+use refusal::Refusal;
 use retry_parts::lent::lay;
 use retry_parts::numbers::{after, among_last, one_more};
-use retry_receiver::{nack, receiver_is_ruled, refused, undelivered};
-use retry_rules::{Arrived, Receiver};
-
-// Advance, and ACK that number.
-fn delivered(receiver: Receiver, number: u8, channel: u8, bad: bool, length: u16) -> Arrived
-    ensures { result ≡ delivery receiver number channel bad length }
-{
-    Arrived {
-        refusal: 0,
-        delivered: true,
-        nack: false,
-        number,
-        channel,
-        bad,
-        length,
-        receiver: Receiver {
-            expected: after(receiver.expected, 1),
-            received: one_more(receiver.received),
-            size: receiver.size,
-        },
-    }
-}
+use retry_receiver::{nack, receiver_is_ruled};
+use retry_rules::{Arrival, Delivered, Receiver, Reply};
 
 // The expected number, and room: the segment is to be delivered.
 fn is_wanted(receiver: Receiver, number: u32, room: bool) -> bool
     ensures { result ≡ wanted receiver number room }
 {
-    if number == receiver.expected as u32 {
-        return room;
-    }
-    false
+    number == u32::from(receiver.expected) && room
 }
 
-// The number that an arrival is refused with; 0 is none.
-fn arrival_refusal(
+// What an arrival is refused with.
+#[tactic(auto, unfolding(retry_rules::specs::Arrival::arrival_checks))]
+fn may_arrive(
     receiver: Receiver,
     number: u32,
     channel: u32,
     length: usize,
     room: bool,
     output: usize,
-) -> u8
-    ensures { result ≡ refusal_of (arrival_checks receiver number channel length room output) }
+) -> Result<(), Refusal>
+    ensures { refusal_says result ≡ refusal_of (arrival_checks receiver number channel length room output) }
 {
-    if !receiver_is_ruled(receiver) {
-        return refusal::OUT_OF_RANGE;
+    if !receiver_is_ruled(receiver) || 16 <= number || 16 <= channel {
+        return Err(Refusal::OutOfRange);
     }
-    if 16 <= number {
-        return refusal::OUT_OF_RANGE;
-    }
-    if 16 <= channel {
-        return refusal::OUT_OF_RANGE;
-    }
-    if (receiver.size as usize) < length {
-        return refusal::SEGMENT_SIZE;
+    if usize::from(receiver.size) < length {
+        return Err(Refusal::SegmentSize);
     }
     if length == 0 {
-        return refusal::NO_BYTES;
+        return Err(Refusal::NoBytes);
     }
-    if is_wanted(receiver, number, room) {
-        if output < length {
-            return refusal::SHORT_OUTPUT;
-        }
+    if is_wanted(receiver, number, room) && output < length {
+        return Err(Refusal::ShortOutput);
     }
-    0
+    Ok(())
+}
+
+// The receiver after a delivery: one more is received, and the next number is expected.
+fn advanced(receiver: Receiver) -> Receiver
+    ensures { result ≡ advanced receiver }
+{
+    Receiver {
+        expected: after(receiver.expected, 1),
+        received: one_more(receiver.received),
+        ..receiver
+    }
+}
+
+// The reply to a segment that is not delivered: one of the last eight is acknowledged again, and any other is not.
+#[tactic(auto, unfolding(retry_rules::specs::Arrival::answer_to))]
+fn reply_to(receiver: Receiver, number: u8) -> Reply
+    ensures { reply_says result ≡ arrival_beside (answer_to receiver number 0 false 0 false) }
+{
+    if number != receiver.expected && among_last(receiver.received, receiver.expected, number) {
+        return Reply::Ack(number);
+    }
+    nack(receiver)
 }
 
 // The arrival of a valid segment. Its bytes are in `output` if it is delivered.
 pub fn arrival(
-    receiver: Receiver,
+    receiver: &mut Receiver,
     number: u32,
     channel: u32,
     bad: bool,
     bytes: &[u8],
     room: bool,
     output: &mut [u8],
-) -> Arrived
-    ensures { (result ≡ arrival_of receiver number channel bad (length bytes.now) room (length output.old))
-        × (output.new ≡ arrival_output receiver number channel bytes.now room output.old) }
+) -> Result<Arrival, Refusal>
+    ensures { (let answer = arrival_of receiver.old number channel bad (length bytes.now) room (length output.old) in
+        (arrival_says result ≡ arrival_beside answer) × (receiver.new ≡ answer.receiver)
+        × (output.new ≡ arrival_output receiver.old number channel bytes.now room output.old)) }
 {
-    let refusal = arrival_refusal(receiver, number, channel, bytes.len(), room, output.len());
-    if refusal != 0 {
-        return refused(receiver, refusal);
+    may_arrive(*receiver, number, channel, bytes.len(), room, output.len())?;
+    if !is_wanted(*receiver, number, room) {
+        return Ok(Arrival {
+            reply: reply_to(*receiver, number as u8),
+            delivered: None,
+        });
     }
-    let k = number as u8;
-    if k == receiver.expected {
-        if room {
-            lay(bytes, output, 0);
-            return delivered(receiver, k, channel as u8, bad, bytes.len() as u16);
-        }
-        return nack(receiver);
-    }
-    if among_last(receiver.received, receiver.expected, k) {
-        return undelivered(false, k, receiver);
-    }
-    nack(receiver)
+    lay(bytes, output, 0);
+    *receiver = advanced(*receiver);
+    let delivered = Delivered {
+        channel: channel as u8,
+        bad,
+        length: bytes.len() as u16,
+    };
+    Ok(Arrival {
+        reply: Reply::Ack(number as u8),
+        delivered: Some(delivered),
+    })
 }

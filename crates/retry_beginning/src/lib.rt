@@ -2,18 +2,18 @@
 #![tactic(auto)]
 
 ghost use Rattle.std.specs.Prelude.{◌≡◌};
-ghost use Rattle.refusal.specs.Order.{refusal_of};
-ghost use Rattle.retry_rules.specs.Fresh.{sender_with, fresh_checks, fresh_sender_of, reset_checks, reset_of};
+ghost use Rattle.refusal.specs.Order.{refusal_says, refusal_of};
+ghost use Rattle.retry_rules.specs.Fresh.{fresh_sender, fresh_checks, fresh_says, fresh_sender_of, reset_of};
 
-use refusal;
+use refusal::Refusal;
 use retry_parts::numbers::time_is_allowed;
-use retry_rules::{Answered, Counters, Sender, Slots, UP};
+use retry_rules::{Counters, Sender, Slot, UP};
 use retry_state::sender_is_ruled;
 use segment_size::size_is_allowed;
 
-// Nothing stored, the timer at its start.
-fn sender_with(link: u8, columns: u16, size: u16) -> Sender
-    ensures { result ≡ sender_with link columns size }
+// Nothing stored, the timer at its start, the link up.
+fn fresh(columns: u16, size: u16) -> Sender
+    ensures { result ≡ fresh_sender columns size }
 {
     Sender {
         counters: Counters {
@@ -26,66 +26,48 @@ fn sender_with(link: u8, columns: u16, size: u16) -> Sender
             expiries: 0,
             columns,
             size,
-            link,
+            link: UP,
         },
-        slots: Slots {
-            lengths: [0u16; 8],
-            channels: [0u8; 8],
-            bad: [false; 8],
-        },
+        slots: [Slot {
+            length: 0,
+            channel: 0,
+            bad: false,
+        }; 8],
     }
 }
 
-// The number that a fresh sender is refused with; 0 is none.
-fn fresh_refusal(columns: u32, size: u32) -> u8
-    ensures { result ≡ refusal_of (fresh_checks columns size) }
+// What a fresh sender is refused with. `columns` and `size` are two parameters and no struct: C gives each by itself, any number.
+#[tactic(auto, unfolding(retry_rules::specs::Fresh::fresh_checks))]
+fn may_begin(columns: u32, size: u32) -> Result<(), Refusal>
+    ensures { refusal_says result ≡ refusal_of (fresh_checks columns size) }
 {
     if !time_is_allowed(columns) {
-        return refusal::OUT_OF_RANGE;
+        return Err(Refusal::OutOfRange);
     }
     if !size_is_allowed(size) {
-        return refusal::SEGMENT_SIZE;
+        return Err(Refusal::SegmentSize);
     }
-    0
+    Ok(())
 }
 
 // A sender that has stored nothing yet, on a link that is up; refused, there is none.
-pub fn fresh_sender(columns: u32, size: u32) -> Answered
-    ensures { result ≡ fresh_sender_of columns size }
+#[tactic(auto, using(retry_rules::proofs::Errs::fresh_sender_err, retry_rules::proofs::Done::fresh_sender_done, retry_rules::proofs::Seen::fresh_seen))]
+pub fn fresh_sender(columns: u32, size: u32) -> Result<Sender, Refusal>
+    ensures { fresh_says result ≡ fresh_sender_of columns size }
 {
-    let refusal = fresh_refusal(columns, size);
-    if refusal != 0 {
-        return Answered {
-            refusal,
-            sender: sender_with(0, 0, 0),
-        };
-    }
-    Answered {
-        refusal: 0,
-        sender: sender_with(UP, columns as u16, size as u16),
-    }
+    may_begin(columns, size)?;
+    // A plain `as`: the checks have made sure that both fit, and a `try_from` would answer an error that cannot come.
+    Ok(fresh(columns as u16, size as u16))
 }
 
-// The number that a reset is refused with; 0 is none. A link that is down is no reason.
-fn reset_refusal(sender: Sender, columns: u32, size: u32) -> u8
-    ensures { result ≡ refusal_of (reset_checks sender columns size) }
+// Makes the sender fresh; refused, it stays, with all that it stores. A link that is down is no reason to refuse.
+#[tactic(auto, using(crate::proofs::Anew::broken, crate::proofs::Anew::refused))]
+pub fn reset(sender: &mut Sender, columns: u32, size: u32) -> Result<(), Refusal>
+    ensures { (refusal_says result ≡ (reset_of sender.old columns size).refusal) × (sender.new ≡ (reset_of sender.old columns size).sender) }
 {
-    if !sender_is_ruled(sender) {
-        return refusal::OUT_OF_RANGE;
+    if !sender_is_ruled(*sender) {
+        return Err(Refusal::OutOfRange);
     }
-    fresh_refusal(columns, size)
-}
-
-// A fresh sender in place of the one given; refused, the one given, with all that it stores.
-pub fn reset(sender: Sender, columns: u32, size: u32) -> Answered
-    ensures { result ≡ reset_of sender columns size }
-{
-    let refusal = reset_refusal(sender, columns, size);
-    if refusal != 0 {
-        return Answered { refusal, sender };
-    }
-    Answered {
-        refusal: 0,
-        sender: sender_with(UP, columns as u16, size as u16),
-    }
+    *sender = fresh_sender(columns, size)?;
+    Ok(())
 }

@@ -2,89 +2,83 @@
 #![tactic(auto)]
 
 ghost use Rattle.std.specs.Prelude.{◌≡◌, ◌<◌, length};
-ghost use Rattle.refusal.specs.Order.{refusal_of};
-ghost use Rattle.retry_rules.specs.Offer.{offer_checks, stored_in, offer_of, offer_buffers};
+ghost use Rattle.refusal.specs.Order.{refusal_says, refusal_of};
+ghost use Rattle.retry_rules.specs.Answers.{offer_says, offer_beside};
+ghost use Rattle.retry_rules.specs.Offer.{offer_checks, one_stored, stored_in, offer_of, offer_buffers};
 
-use refusal;
+use refusal::Refusal;
 use retry_parts::lent::lay;
 use retry_parts::numbers::after;
-use retry_rules::{DOWN, Offered, Sender, Slots};
+use retry_rules::{Counters, Sender, Slot};
 use retry_slots::{buffer_of, slot_of};
-use retry_state::sender_is_ruled;
+use retry_state::may_call;
 
-// The number that an offer is refused with; 0 is none.
-fn offer_refusal(sender: Sender, lent: usize, channel: u32, length: usize) -> u8
-    ensures { result ≡ refusal_of (offer_checks sender lent channel length) }
+// What an offer is refused with.
+#[tactic(auto, using(retry_slots::proofs::First::refused_first), unfolding(retry_rules::specs::Offer::offer_checks, retry_rules::specs::Reply::sender_checks))]
+fn may_offer(sender: Sender, lent: usize, channel: u32, length: usize) -> Result<(), Refusal>
+    ensures { refusal_says result ≡ refusal_of (offer_checks sender lent channel length) }
 {
+    may_call(sender)?;
     let c = sender.counters;
-    if c.link == DOWN {
-        return refusal::LINK_DOWN;
+    if lent != 8 * usize::from(c.size) || 16 <= channel {
+        return Err(Refusal::OutOfRange);
     }
-    if !sender_is_ruled(sender) {
-        return refusal::OUT_OF_RANGE;
-    }
-    if lent != 8 * (c.size as usize) {
-        return refusal::OUT_OF_RANGE;
-    }
-    if 16 <= channel {
-        return refusal::OUT_OF_RANGE;
-    }
-    if (c.size as usize) < length {
-        return refusal::SEGMENT_SIZE;
+    if usize::from(c.size) < length {
+        return Err(Refusal::SegmentSize);
     }
     if length == 0 {
-        return refusal::NO_BYTES;
+        return Err(Refusal::NoBytes);
     }
     if c.stored == 8 {
-        return refusal::FULL;
+        return Err(Refusal::Full);
     }
-    0
+    Ok(())
 }
 
-// One more is stored, in the free buffer, and waits.
+// One more is stored, and waits.
+fn one_stored(c: Counters) -> Counters
+    requires { c.stored < 8 }
+    ensures { result ≡ one_stored c }
+{
+    Counters {
+        stored: c.stored + 1,
+        ..c
+    }
+}
+
+// The segment is in the free buffer.
 fn stored_in(sender: Sender, channel: u8, bad: bool, length: u16) -> Sender
     requires { sender.counters.stored < 8 }
     ensures { result ≡ stored_in sender channel bad length }
 {
-    let mut c = sender.counters;
-    let free = slot_of(c, c.stored);
-    let slots = sender.slots;
-    let mut lengths = slots.lengths;
-    let mut channels = slots.channels;
-    let mut marks = slots.bad;
-    lengths[free] = length;
-    channels[free] = channel;
-    marks[free] = bad;
-    c.stored = c.stored + 1;
+    let c = sender.counters;
+    let mut slots = sender.slots;
+    slots[slot_of(c, c.stored)] = Slot {
+        length,
+        channel,
+        bad,
+    };
     Sender {
-        counters: c,
-        slots: Slots {
-            lengths,
-            channels,
-            bad: marks,
-        },
+        counters: one_stored(c),
+        slots,
     }
 }
 
-// An offer: a segment is stored, if there is a free buffer, and gets the number after the last stored one.
-pub fn offer(sender: Sender, buffers: &mut [u8], channel: u32, bad: bool, bytes: &[u8]) -> Offered
-    ensures { (result ≡ offer_of sender (length buffers.old) channel bad (length bytes.now))
-        × (buffers.new ≡ offer_buffers sender buffers.old channel bytes.now) }
+// An offer: a segment is stored, if there is a free buffer, and gets the number after the last stored one, which is the answer.
+pub fn offer(
+    sender: &mut Sender,
+    buffers: &mut [u8],
+    channel: u32,
+    bad: bool,
+    bytes: &[u8],
+) -> Result<u8, Refusal>
+    ensures { (offer_says result ≡ offer_beside (offer_of sender.old (length buffers.old) channel bad (length bytes.now)))
+        × (sender.new ≡ (offer_of sender.old (length buffers.old) channel bad (length bytes.now)).sender)
+        × (buffers.new ≡ offer_buffers sender.old buffers.old channel bytes.now) }
 {
-    let refusal = offer_refusal(sender, buffers.len(), channel, bytes.len());
-    if refusal != 0 {
-        return Offered {
-            refusal,
-            number: 0,
-            sender,
-        };
-    }
+    may_offer(*sender, buffers.len(), channel, bytes.len())?;
     let c = sender.counters;
-    let at = buffer_of(c, c.stored);
-    lay(bytes, buffers, at);
-    Offered {
-        refusal: 0,
-        number: after(c.oldest, c.stored),
-        sender: stored_in(sender, channel as u8, bad, bytes.len() as u16),
-    }
+    lay(bytes, buffers, buffer_of(c, c.stored));
+    *sender = stored_in(*sender, channel as u8, bad, bytes.len() as u16);
+    Ok(after(c.oldest, c.stored))
 }

@@ -5,7 +5,9 @@ use mathlib.Core.List.{List}
 use Prim.Native.Nat.{ℕ}
 use lib.Dec.{eqb}
 use borrow.Author.Tests.{eqb-true}
+use Rattle.std.specs.Prelude.{Result, Ok, Err, IsErrAnd}
 use Rattle.laws.proofs.Cases.{by_test, cond_true, cond_false}
+use Rattle.refusal.specs.declared.Refusal.{Refusal}
 use Rattle.refusal.specs.Order.{Check, refusal_of, outcome}
 use Rattle.refusal.proofs.Laws.{done, refused}
 
@@ -24,3 +26,8 @@ answers_number cs n is f =
     by_test (eqb (refusal_of cs) 0)
     (λ t. ap f (is ∙ eqb-true (refusal_of cs) 0 t) ∙ sym (cond_true (eqb (refusal_of cs) 0) (f 0) (f (refusal_of cs)) t))
     (λ t. ap f is ∙ sym (cond_false (eqb (refusal_of cs) 0) (f 0) (f (refusal_of cs)) t))
+
+-- what `?` hands back of a refusal
+pub handed_back : {A : Type 0} (answer : Result A Refusal) (r : Refusal) → IsErrAnd answer (λ s. s ≡ r) → answer ≡ Err r
+handed_back (Ok x) r e = absurd e
+handed_back (Err s) r e = ap Err e

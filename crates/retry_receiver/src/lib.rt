@@ -1,96 +1,55 @@
-// The receiver: its rule, a fresh one, and what it answers where nothing is delivered.
+// The receiver: its rule, a fresh one, and what it answers where nothing but a damaged segment came.
 #![tactic(auto)]
 
 ghost use Rattle.std.specs.Prelude.{◌≡◌};
+ghost use Rattle.retry_rules.specs.Answers.{reply_says, arrival_beside, damaged_says};
 ghost use Rattle.retry_rules.specs.States.{receiver_rule};
-ghost use Rattle.retry_rules.specs.Refused.{refused_receiver, refused_arrival};
-ghost use Rattle.retry_rules.specs.Fresh.{fresh_receiver, fresh_receiver_of};
-ghost use Rattle.retry_rules.specs.Arrival.{undelivered, nack_of, damaged_arrival_of};
+ghost use Rattle.retry_rules.specs.Fresh.{fresh_receiver_of, begun_says};
+ghost use Rattle.retry_rules.specs.Arrival.{nack_of, damaged_arrival_of};
 
-use refusal;
+use refusal::Refusal;
 use retry_parts::numbers::count_is_ruled;
-use retry_rules::{Arrived, Begun, Receiver};
+use retry_rules::{Receiver, Reply};
 use segment_size::size_is_allowed;
 
 // The written rule of a receiver.
+#[tactic(auto, unfolding(retry_rules::specs::States::receiver_rule))]
 pub fn receiver_is_ruled(receiver: Receiver) -> bool
     ensures { result ≡ receiver_rule receiver }
 {
-    if size_is_allowed(receiver.size as u32) {
-        return count_is_ruled(receiver.expected, receiver.received);
-    }
-    false
+    size_is_allowed(u32::from(receiver.size))
+        && count_is_ruled(receiver.expected, receiver.received)
 }
 
-// Nothing received, and number 0 expected. Of size 0 it is no receiver.
-fn begun(refusal: u8, size: u16) -> Begun
-    ensures { result ≡ refused_receiver (fresh_receiver size) refusal }
+// A receiver that has received nothing, and expects number 0; refused, there is none.
+#[tactic(auto, using(segment_size::proofs::Ranges::size_range), unfolding(retry_rules::specs::Fresh::fresh_receiver_of, retry_rules::specs::Fresh::size_checks))]
+pub fn fresh_receiver(size: u32) -> Result<Receiver, Refusal>
+    ensures { begun_says result ≡ fresh_receiver_of size }
 {
-    Begun {
-        refusal,
-        receiver: Receiver {
-            expected: 0,
-            received: 0,
-            size,
-        },
+    if !size_is_allowed(size) {
+        return Err(Refusal::SegmentSize);
     }
-}
-
-// A receiver that has received nothing; refused, there is none.
-pub fn fresh_receiver(size: u32) -> Begun
-    ensures { result ≡ fresh_receiver_of size }
-{
-    if size_is_allowed(size) {
-        return begun(0, size as u16);
-    }
-    begun(refusal::SEGMENT_SIZE, 0)
-}
-
-// A refusal hands back the receiver that was given.
-pub fn refused(receiver: Receiver, refusal: u8) -> Arrived
-    ensures { result ≡ refused_arrival receiver refusal }
-{
-    Arrived {
-        refusal,
-        delivered: false,
-        nack: false,
-        number: 0,
-        channel: 0,
-        bad: false,
-        length: 0,
-        receiver,
-    }
-}
-
-// Nothing is delivered, and a reply goes out.
-pub fn undelivered(nack: bool, number: u8, receiver: Receiver) -> Arrived
-    ensures { result ≡ undelivered nack number receiver }
-{
-    Arrived {
-        refusal: 0,
-        delivered: false,
-        nack,
-        number,
-        channel: 0,
-        bad: false,
-        length: 0,
-        receiver,
-    }
+    Ok(Receiver {
+        expected: 0,
+        received: 0,
+        size: size as u16,
+    })
 }
 
 // A NACK carries the expected number.
-pub fn nack(receiver: Receiver) -> Arrived
-    ensures { result ≡ nack_of receiver }
+pub fn nack(receiver: Receiver) -> Reply
+    ensures { reply_says result ≡ arrival_beside (nack_of receiver) }
 {
-    undelivered(true, receiver.expected, receiver)
+    Reply::Nack(receiver.expected)
 }
 
-// The arrival of a damaged segment, which brings neither number nor bytes.
-pub fn damaged_arrival(receiver: Receiver) -> Arrived
-    ensures { result ≡ damaged_arrival_of receiver }
+// The arrival of a damaged segment, which brings neither number nor bytes: the reply, and the receiver stays as it is.
+#[tactic(auto, unfolding(retry_rules::specs::Arrival::damaged_arrival_of, retry_rules::specs::Arrival::receiver_checks))]
+pub fn damaged_arrival(receiver: &Receiver) -> Result<Reply, Refusal>
+    ensures { damaged_says result ≡ arrival_beside (damaged_arrival_of receiver.now) }
 {
-    if receiver_is_ruled(receiver) {
-        return nack(receiver);
+    if !receiver_is_ruled(*receiver) {
+        return Err(Refusal::OutOfRange);
     }
-    refused(receiver, refusal::OUT_OF_RANGE)
+    Ok(nack(*receiver))
 }

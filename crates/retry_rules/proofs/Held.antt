@@ -2,19 +2,19 @@
 -- content at the send point; what is delivered is what came.
 -- Assumes nothing.
 use mathlib.Core.Path.{◌≡◌, refl, ◌∙◌, ap}
-use mathlib.Core.Bool.{Bool, true, false}
+use mathlib.Core.Bool.{Bool, true}
 use mathlib.Core.List.{List}
 use mathlib.Core.Logic.{◌≢◌}
 use Prim.Native.Nat.{ℕ, ◌+◌, ◌*◌, ◌≤◌, ◌<◌}
 use native.Mathlib.Omega.{arith}
 use native.Mathlib.Decide.{dec_lt}
-use lib.ListN.{length, get_or, take, drop, length-drop}
+use lib.ListN.{length, take, drop, length-drop}
 use lib.Seq.{get_or-set_same, get_or-set_other, length-take-le, take_at}
 use borrow.Author.Tests.{ltb-true}
 use Rattle.laws.proofs.Cases.{cond_true}
 use Rattle.retry_rules.specs.declared.Sender.{Sender}
 use Rattle.retry_rules.specs.declared.Receiver.{Receiver}
-use Rattle.retry_rules.specs.States.{slot_of, Eight}
+use Rattle.retry_rules.specs.States.{slot_of, no_slot, slot_in, Eight}
 use Rattle.retry_rules.specs.Lent.{laid, buffer_at, held_length, held_bytes, held_content}
 use Rattle.retry_rules.specs.Offer.{free_slot, stored_in, offer_of, offer_buffers}
 use Rattle.retry_rules.specs.Send.{to_send, due_slot, send_of, send_output}
@@ -39,9 +39,11 @@ module _ (s : Sender) (buffers : List ℕ) (channel : ℕ) (bad : Bool) (bytes :
   unfolding held_content held_bytes
   stores =
       let free = free_slot s.counters in
-      let p = get_or-set_same s.slots.channels free channel 0 (omega (arith, e.channels, free_lt)) in
-      let q = get_or-set_same s.slots.bad free bad false (omega (arith, e.bad, free_lt)) in
-      let l = get_or-set_same s.slots.lengths free (length bytes) 0 (omega (arith, e.lengths, free_lt)) in
+      let new =
+      get_or-set_same s.slots free (record { length = length bytes; channel = channel; bad = bad }) no_slot (omega (arith, e.slots, free_lt)) in
+      let p = ap (λ x. x.channel) new in
+      let q = ap (λ x. x.bad) new in
+      let l = ap (λ x. x.length) new in
       let r = ap (λ (k : ℕ). take k (drop (buffer_at s free) (laid buffers (buffer_at s free) bytes))) l
       ∙ laid_same buffers (buffer_at s free) bytes in_run in
       λ t. record { channel = p t; bad = q t; bytes = r t }
@@ -58,9 +60,11 @@ module _ (s : Sender) (buffers : List ℕ) (channel : ℕ) (bad : Bool) (bytes :
       let room = o.free in
       let ne : j ≢ free = λ p. omega arith in
       let held = stored_slot s i o.sound.slots h in
-      let p = get_or-set_other s.slots.channels free j channel 0 ne in
-      let q = get_or-set_other s.slots.bad free j bad false ne in
-      let l = get_or-set_other s.slots.lengths free j (length bytes) 0 ne in
+      let kept =
+      get_or-set_other s.slots free j (record { length = length bytes; channel = channel; bad = bad }) no_slot ne in
+      let p = ap (λ x. x.channel) kept in
+      let q = ap (λ x. x.bad) kept in
+      let l = ap (λ x. x.length) kept in
       let k = held_length s j in
       let most = held.most in
       let run = laid buffers (buffer_at s free) bytes in
@@ -115,7 +119,7 @@ send_holds s buffers output o t =
     ap (take (held_length s i)) (send_lays s buffers output o t ∙ laid_first output bytes)
     ∙ take_at bytes (drop (length bytes) output) (held_length s i) size in
     simp (send_done s (length buffers) (length output) o t)
-    (ap (λ (b : List ℕ). record { channel = get_or s.slots.channels i 0; bad = get_or s.slots.bad i false; bytes = b }) front)
+    (ap (λ (b : List ℕ). record { channel = (slot_in s i).channel; bad = (slot_in s i).bad; bytes = b }) front)
 
 -- what is delivered is what came
 pub arrival_holds :

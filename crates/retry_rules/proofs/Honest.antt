@@ -11,10 +11,7 @@ use borrow.Author.Tests.{ltb-true, leb-true, eqb-true, eqb-false, ne_eqb, eq-eqb
 use Rattle.laws.proofs.Cases.{by_cases, by_both, cond_false, false_is_not_true, first_true, second_true}
 use Rattle.retry_rules.specs.declared.Counters.{Counters}
 use Rattle.retry_rules.specs.declared.Sender.{Sender}
-use Rattle.retry_rules.specs.declared.Answered.{Answered}
-use Rattle.retry_rules.specs.declared.Offered.{Offered}
-use Rattle.retry_rules.specs.declared.Sent.{Sent}
-use Rattle.retry_rules.specs.declared.Ticked.{Ticked}
+use Rattle.retry_rules.specs.Answers.{Answered, Offered, Sent, Ticked}
 use Rattle.retry_rules.specs.Numbers.{time_allowed}
 use Rattle.segment_size.specs.Sizes.{size_allowed}
 use Rattle.retry_rules.specs.States.{sender_rule, Eight}

@@ -11,12 +11,7 @@ use Rattle.laws.proofs.Cases.{by_cases, both_true, first_true, second_true}
 use Rattle.retry_rules.specs.declared.Counters.{Counters}
 use Rattle.retry_rules.specs.declared.Sender.{Sender}
 use Rattle.retry_rules.specs.declared.Receiver.{Receiver}
-use Rattle.retry_rules.specs.declared.Answered.{Answered}
-use Rattle.retry_rules.specs.declared.Offered.{Offered}
-use Rattle.retry_rules.specs.declared.Sent.{Sent}
-use Rattle.retry_rules.specs.declared.Ticked.{Ticked}
-use Rattle.retry_rules.specs.declared.Begun.{Begun}
-use Rattle.retry_rules.specs.declared.Arrived.{Arrived}
+use Rattle.retry_rules.specs.Answers.{Answered, Offered, Sent, Ticked, Begun, Arrived}
 use Rattle.retry_rules.specs.Numbers.{count_rule, among_last}
 use Rattle.segment_size.specs.Sizes.{size_allowed}
 use Rattle.retry_rules.specs.States.{counters_rule, slots_rule, sender_rule, receiver_rule, Eight}
@@ -153,7 +148,7 @@ unfolding fresh_sender_of
 fresh_sender_kept t s =
     either_way (fresh_checks t s)
     (λ (a : Answered). a.refusal ≡ 0 → (a.sender ≡ fresh_sender t s) × (sender_rule a.sender ≡ true) × Eight a.sender) (refused_sender no_sender) _
-    (λ p _. (refl, fresh_rule t s (fresh_seen t s p), record { lengths = refl; channels = refl; bad = refl })) (λ p q. absurd (p q))
+    (λ p _. (refl, fresh_rule t s (fresh_seen t s p), record { slots = refl })) (λ p q. absurd (p q))
 
 pub reset_kept : (given : Sender) (t s : ℕ) → sender_rule given ≡ true → sender_rule (reset_of given t s).sender ≡ true
 unfolding reset_of
@@ -166,27 +161,23 @@ pub eight_after : (s : Sender) (c : SenderCall) → Eight s → Eight (sender_ca
 unfolding offer_of send_of reply_of damaged_reply_of tick_of reset_of
 eight_after s (offer lent channel bad n) e =
     either_way (offer_checks s lent channel n) (λ (a : Offered). Eight a.sender) (refused_offer s) _
-    (λ _. record {
-      lengths = length-set s.slots.lengths _ n ∙ e.lengths;
-      channels = length-set s.slots.channels _ channel ∙ e.channels;
-      bad = length-set s.slots.bad _ bad ∙ e.bad;
-    })
+    (λ _. record { slots = length-set s.slots _ _ ∙ e.slots })
     (λ _. e)
 eight_after s (send lent output) e =
     let P : Sent → Type 0 = λ a. Eight a.sender in
     either_way (send_checks s lent output) P (refused_send s) _
-    (λ _. by_cases P (to_send s.counters) (λ _. record { lengths = e.lengths; channels = e.channels; bad = e.bad }) (λ _. e)) (λ _. e)
+    (λ _. by_cases P (to_send s.counters) (λ _. record { slots = e.slots }) (λ _. e)) (λ _. e)
 eight_after s (reply nack k) e =
     either_way (reply_checks s k) (λ (a : Answered). Eight a.sender) (refused_sender s) _
-    (λ _. record { lengths = e.lengths; channels = e.channels; bad = e.bad }) (λ _. e)
+    (λ _. record { slots = e.slots }) (λ _. e)
 eight_after s damaged_reply e =
     either_way (sender_checks s) (λ (a : Answered). Eight a.sender) (refused_sender s) _ (λ _. e) (λ _. e)
 eight_after s tick e =
     either_way (sender_checks s) (λ (a : Ticked). Eight a.sender) (refused_tick s) _
-    (λ _. record { lengths = e.lengths; channels = e.channels; bad = e.bad }) (λ _. e)
+    (λ _. record { slots = e.slots }) (λ _. e)
 eight_after s (reset t size) e =
     either_way (reset_checks s t size) (λ (a : Answered). Eight a.sender) (refused_sender s) _
-    (λ _. record { lengths = refl; channels = refl; bad = refl }) (λ _. e)
+    (λ _. record { slots = refl }) (λ _. e)
 
 -- the receiver
 advanced_rule : (r : Receiver) → receiver_rule r ≡ true → receiver_rule (advanced r) ≡ true

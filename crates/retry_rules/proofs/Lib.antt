@@ -4,6 +4,7 @@ pub mod StoredSlots
 pub mod Seen
 pub mod Kept
 pub mod Refusals
+pub mod Errs
 pub mod Done
 pub mod Laid
 pub mod Held

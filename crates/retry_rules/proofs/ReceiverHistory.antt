@@ -9,7 +9,7 @@ use lib.Dec.{eqb}
 use borrow.Author.Tests.{eqb-true, eqb-false}
 use Rattle.laws.proofs.Cases.{by_cases, both_true, false_is_not_true}
 use Rattle.retry_rules.specs.declared.Receiver.{Receiver}
-use Rattle.retry_rules.specs.declared.Arrived.{Arrived}
+use Rattle.retry_rules.specs.Answers.{Arrived}
 use Rattle.retry_rules.specs.Numbers.{count_rule, among_last}
 use Rattle.segment_size.specs.Sizes.{size_allowed}
 use Rattle.retry_rules.specs.States.{receiver_rule}

@@ -11,12 +11,7 @@ use Rattle.refusal.specs.Order.{refusal_of}
 use Rattle.refusal.proofs.Laws.{hands_back}
 use Rattle.retry_rules.specs.declared.Sender.{Sender}
 use Rattle.retry_rules.specs.declared.Receiver.{Receiver}
-use Rattle.retry_rules.specs.declared.Answered.{Answered}
-use Rattle.retry_rules.specs.declared.Offered.{Offered}
-use Rattle.retry_rules.specs.declared.Sent.{Sent}
-use Rattle.retry_rules.specs.declared.Ticked.{Ticked}
-use Rattle.retry_rules.specs.declared.Begun.{Begun}
-use Rattle.retry_rules.specs.declared.Arrived.{Arrived}
+use Rattle.retry_rules.specs.Answers.{Answered, Offered, Sent, Ticked, Begun, Arrived}
 use Rattle.retry_rules.specs.Numbers.{among_last}
 use Rattle.retry_rules.specs.Refused.{refused_sender, refused_offer, refused_send, refused_tick, refused_receiver, refused_arrival}
 use Rattle.retry_rules.specs.Fresh.{no_sender, no_receiver, fresh_checks, fresh_sender_of, size_checks, fresh_receiver_of, reset_checks, reset_of}

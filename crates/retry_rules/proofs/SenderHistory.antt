@@ -11,10 +11,7 @@ use Rattle.laws.proofs.Cases.{by_cases, cond_true, false_is_not_true}
 use Rattle.refusal.specs.Order.{Check, given, refusal_of}
 use Rattle.retry_rules.specs.declared.Counters.{Counters}
 use Rattle.retry_rules.specs.declared.Sender.{Sender}
-use Rattle.retry_rules.specs.declared.Answered.{Answered}
-use Rattle.retry_rules.specs.declared.Offered.{Offered}
-use Rattle.retry_rules.specs.declared.Sent.{Sent}
-use Rattle.retry_rules.specs.declared.Ticked.{Ticked}
+use Rattle.retry_rules.specs.Answers.{Answered, Offered, Sent, Ticked}
 use Rattle.retry_rules.specs.Numbers.{time_allowed, among_last}
 use Rattle.segment_size.specs.Sizes.{size_allowed}
 use Rattle.retry_rules.specs.States.{is_down, sender_rule}

@@ -8,14 +8,13 @@ use native.Mathlib.Omega.{arith}
 use native.Mathlib.Nat.{not-suc-le-zero}
 use native.Mathlib.Numerals.{add-one}
 use lib.Dec.{ltb, leb, eqb}
-use lib.ListN.{get_or, set}
 use lib.Seq.{get_or-set_same, get_or-set_other}
 use borrow.Author.Tests.{ltb-true, leb-true, eqb-true, eqb-false, lt-ltb, le-leb}
 use Rattle.laws.proofs.Cases.{by_test, both_true, first_true, second_true, false_is_not_true}
 use Rattle.retry_rules.specs.declared.Counters.{Counters}
 use Rattle.retry_rules.specs.declared.Sender.{Sender}
 use Rattle.retry_rules.specs.Numbers.{every_below}
-use Rattle.retry_rules.specs.States.{slot_of, slot_rule, slots_rule, Eight}
+use Rattle.retry_rules.specs.States.{slot_of, no_slot, slot_in, slot_rule, slots_rule, Eight}
 use Rattle.retry_rules.specs.Offer.{free_slot, stored_in}
 use Rattle.retry_rules.specs.Reply.{with_counters}
 
@@ -43,28 +42,28 @@ every_fails n f i h q =
 
 -- what a buffer holds that keeps its rule
 pub record Slot (s : Sender) (i : ℕ) : Type 0 where
-  pub some : 0 < get_or s.slots.lengths i 0
-  pub most : get_or s.slots.lengths i 0 ≤ s.counters.size
-  pub channel_lt : get_or s.slots.channels i 0 < 16
+  pub some : 0 < (slot_in s i).length
+  pub most : (slot_in s i).length ≤ s.counters.size
+  pub channel_lt : (slot_in s i).channel < 16
 
 pub slot : (s : Sender) (i : ℕ) → slot_rule s i ≡ true → Slot s i
 unfolding slot_rule
 slot s i q =
-    let l = get_or s.slots.lengths i 0 in
+    let l = (slot_in s i).length in
     let q₁ = second_true (ltb 0 l) _ q in
     record {
       some = ltb-true 0 l (first_true (ltb 0 l) _ q);
       most = leb-true l s.counters.size (first_true (leb l s.counters.size) _ q₁);
-      channel_lt = ltb-true (get_or s.slots.channels i 0) 16 (second_true (leb l s.counters.size) _ q₁);
+      channel_lt = ltb-true (slot_in s i).channel 16 (second_true (leb l s.counters.size) _ q₁);
     }
 
 pub slot_kept : (s : Sender) (i : ℕ) → Slot s i → slot_rule s i ≡ true
 unfolding slot_rule
 slot_kept s i h =
-    let l = get_or s.slots.lengths i 0 in
+    let l = (slot_in s i).length in
     both_true (ltb 0 l) _ (lt-ltb 0 l h.some)
     (both_true (leb l s.counters.size) _ (le-leb l s.counters.size h.most)
-    (lt-ltb (get_or s.slots.channels i 0) 16 h.channel_lt))
+    (lt-ltb (slot_in s i).channel 16 h.channel_lt))
 
 -- the segment that stands i after the oldest, if it is stored
 pub stored_slot : (s : Sender) (i : ℕ) → slots_rule s ≡ true → i < s.counters.stored → Slot s (slot_of s.counters i)
@@ -106,16 +105,17 @@ module _ (s : Sender) (channel : ℕ) (bad : Bool) (n : ℕ) (e : Eight s) where
       (λ t.
       let eq = eqb-true i s.counters.stored t in
       let at : j ≡ free = omega arith in
-      let lengths : get_or (set s.slots.lengths free n) j 0 ≡ n =
-      ap (λ (m : ℕ). get_or (set s.slots.lengths free n) m 0) at ∙ get_or-set_same s.slots.lengths free n 0 (omega (arith, e.lengths)) in
-      let channels : get_or (set s.slots.channels free channel) j 0 ≡ channel =
-      ap (λ (m : ℕ). get_or (set s.slots.channels free channel) m 0) at
-      ∙ get_or-set_same s.slots.channels free channel 0 (omega (arith, e.channels)) in
+      let new : slot_in (stored_in s channel bad n) j ≡ record { length = n; channel = channel; bad = bad } =
+      ap (λ (m : ℕ). slot_in (stored_in s channel bad n) m) at
+      ∙ get_or-set_same s.slots free (record { length = n; channel = channel; bad = bad }) no_slot (omega (arith, e.slots)) in
+      let lengths = ap (λ x. x.length) new in
+      let channels = ap (λ x. x.channel) new in
       record { some = omega arith; most = omega arith; channel_lt = omega arith })
       (λ t.
       let ne = eqb-false i s.counters.stored t in
       let at : j ≢ free = λ p. omega arith in
       let old = stored_slot s i q (omega arith) in
-      let lengths = get_or-set_other s.slots.lengths free j n 0 at in
-      let channels = get_or-set_other s.slots.channels free j channel 0 at in
+      let kept = get_or-set_other s.slots free j (record { length = n; channel = channel; bad = bad }) no_slot at in
+      let lengths = ap (λ x. x.length) kept in
+      let channels = ap (λ x. x.channel) kept in
       record { some = omega arith; most = omega arith; channel_lt = omega arith }))

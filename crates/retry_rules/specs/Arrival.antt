@@ -3,7 +3,7 @@
 use Rattle.std.specs.Prelude.{ℕ, Bool, true, false, cond, not, ◌&&◌, List, [], ◌∷◌, ltb, eqb, length}
 use Rattle.refusal.specs.Order.{Check, check, outcome, left}
 use Rattle.retry_rules.specs.declared.Receiver.{Receiver}
-use Rattle.retry_rules.specs.declared.Arrived.{Arrived}
+use Rattle.retry_rules.specs.Answers.{Arrived}
 use Rattle.retry_rules.specs.Numbers.{after, one_more, among_last}
 use Rattle.retry_rules.specs.States.{receiver_rule}
 use Rattle.retry_rules.specs.Refused.{refused_arrival}

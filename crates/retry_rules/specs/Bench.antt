@@ -2,7 +2,7 @@
 use Rattle.std.specs.Prelude.{◌≡◌, Bool, true, false, ℕ, zero, suc, ◌%◌}
 use Rattle.retry_rules.specs.declared.Sender.{Sender}
 use Rattle.retry_rules.specs.declared.Receiver.{Receiver}
-use Rattle.retry_rules.specs.declared.Arrived.{Arrived}
+use Rattle.retry_rules.specs.Answers.{Arrived}
 use Rattle.retry_rules.specs.Fresh.{fresh_sender_of, fresh_receiver_of}
 use Rattle.retry_rules.specs.Offer.{offer_of}
 use Rattle.retry_rules.specs.Send.{send_of, send_point}

@@ -2,10 +2,7 @@
 use Rattle.std.specs.Prelude.{ℕ, Bool, true, false}
 use Rattle.retry_rules.specs.declared.Sender.{Sender}
 use Rattle.retry_rules.specs.declared.Receiver.{Receiver}
-use Rattle.retry_rules.specs.declared.Offered.{Offered}
-use Rattle.retry_rules.specs.declared.Sent.{Sent}
-use Rattle.retry_rules.specs.declared.Ticked.{Ticked}
-use Rattle.retry_rules.specs.declared.Arrived.{Arrived}
+use Rattle.retry_rules.specs.Answers.{Offered, Sent, Ticked, Arrived}
 use Rattle.retry_rules.specs.Fresh.{fresh_sender_of, fresh_receiver_of, reset_of}
 use Rattle.retry_rules.specs.Offer.{offer_of}
 use Rattle.retry_rules.specs.Send.{send_of}

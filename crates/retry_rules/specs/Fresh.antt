@@ -1,13 +1,13 @@
 -- A fresh sender of T and S, a fresh receiver of S, and the reset of a sender.
-use Rattle.std.specs.Prelude.{ℕ, false, not, List, [], ◌∷◌, replicate}
-use Rattle.refusal.specs.Order.{Check, check, outcome}
+use Rattle.std.specs.Prelude.{ℕ, not, List, [], ◌∷◌, replicate, Result, Ok, Err}
+use Rattle.refusal.specs.declared.Refusal.{Refusal}
+use Rattle.refusal.specs.Order.{Check, check, outcome, number_of}
 use Rattle.retry_rules.specs.declared.Sender.{Sender}
 use Rattle.retry_rules.specs.declared.Receiver.{Receiver}
-use Rattle.retry_rules.specs.declared.Answered.{Answered}
-use Rattle.retry_rules.specs.declared.Begun.{Begun}
+use Rattle.retry_rules.specs.Answers.{Answered, Begun}
 use Rattle.retry_rules.specs.Numbers.{time_allowed}
 use Rattle.segment_size.specs.Sizes.{size_allowed}
-use Rattle.retry_rules.specs.States.{sender_rule}
+use Rattle.retry_rules.specs.States.{no_slot, sender_rule}
 use Rattle.retry_rules.specs.Refused.{refused_sender, refused_receiver}
 
 -- nothing stored, the timer at its start; the next segment has number 0
@@ -26,7 +26,7 @@ sender_with link t s =
         size = s;
         link = link;
       };
-      slots = record { lengths = replicate 8 0; channels = replicate 8 0; bad = replicate 8 false };
+      slots = replicate 8 no_slot;
     }
 
 abbrev pub fresh_sender : ℕ → ℕ → Sender
@@ -41,6 +41,15 @@ no_sender = sender_with 0 0 0
 
 abbrev pub no_receiver : Receiver
 no_receiver = fresh_receiver 0
+
+-- what an answer of the code says: the sender or the receiver that was made, or a refusal and none
+abbrev pub fresh_says : Result Sender Refusal → Answered
+fresh_says (Ok s) = record { refusal = 0; sender = s }
+fresh_says (Err r) = refused_sender no_sender (number_of r)
+
+abbrev pub begun_says : Result Receiver Refusal → Begun
+begun_says (Ok r) = record { refusal = 0; receiver = r }
+begun_says (Err r) = refused_receiver no_receiver (number_of r)
 
 -- T from 1 to 65,535, and S allowed
 unfoldable pub fresh_checks : ℕ → ℕ → List Check

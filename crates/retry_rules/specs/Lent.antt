@@ -1,6 +1,7 @@
 -- Lent bytes: what is laid into them, and the bytes of a buffer.
-use Rattle.std.specs.Prelude.{ℕ, ◌+◌, ◌*◌, Bool, false, List, ◌++◌, length, get_or, take, drop}
+use Rattle.std.specs.Prelude.{ℕ, ◌+◌, ◌*◌, Bool, List, ◌++◌, length, take, drop}
 use Rattle.retry_rules.specs.declared.Sender.{Sender}
+use Rattle.retry_rules.specs.States.{slot_in}
 
 -- bytes laid over what stood, from a place on; all else is as it stood
 unfoldable pub laid : List ℕ → ℕ → List ℕ → List ℕ
@@ -12,7 +13,7 @@ buffer_at s i = i * s.counters.size
 
 -- how long what buffer i holds is, and its bytes
 abbrev pub held_length : Sender → ℕ → ℕ
-held_length s i = get_or s.slots.lengths i 0
+held_length s i = (slot_in s i).length
 
 unfoldable pub held_bytes : Sender → List ℕ → ℕ → List ℕ
 held_bytes s buffers i = take (held_length s i) (drop (buffer_at s i) buffers)
@@ -27,7 +28,7 @@ pub record Content : Type 0 where
 unfoldable pub held_content : Sender → List ℕ → ℕ → Content
 held_content s buffers i =
     record {
-      channel = get_or s.slots.channels i 0;
-      bad = get_or s.slots.bad i false;
+      channel = (slot_in s i).channel;
+      bad = (slot_in s i).bad;
       bytes = held_bytes s buffers i;
     }

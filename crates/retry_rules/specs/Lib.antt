@@ -1,5 +1,6 @@
 pub mod Numbers
 pub mod States
+pub mod Answers
 pub mod Refused
 pub mod Fresh
 pub mod Lent

@@ -4,7 +4,7 @@ use Rattle.std.specs.Prelude.{ℕ, ◌+◌, Bool, not, List, [], ◌∷◌, ltb,
 use Rattle.refusal.specs.Order.{Check, check, outcome, left}
 use Rattle.retry_rules.specs.declared.Counters.{Counters}
 use Rattle.retry_rules.specs.declared.Sender.{Sender}
-use Rattle.retry_rules.specs.declared.Offered.{Offered}
+use Rattle.retry_rules.specs.Answers.{Offered}
 use Rattle.retry_rules.specs.Numbers.{after}
 use Rattle.retry_rules.specs.States.{is_down, sender_rule, buffers_rule, slot_of}
 use Rattle.retry_rules.specs.Refused.{refused_offer}
@@ -42,11 +42,7 @@ abbrev pub stored_in : Sender → ℕ → Bool → ℕ → Sender
 stored_in s channel bad n =
     record {
       counters = one_stored s.counters;
-      slots = record {
-        lengths = set s.slots.lengths (free_slot s.counters) n;
-        channels = set s.slots.channels (free_slot s.counters) channel;
-        bad = set s.slots.bad (free_slot s.counters) bad;
-      };
+      slots = set s.slots (free_slot s.counters) (record { length = n; channel = channel; bad = bad });
     }
 
 -- what an offer answers

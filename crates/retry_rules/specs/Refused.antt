@@ -2,12 +2,7 @@
 use Rattle.std.specs.Prelude.{ℕ, false}
 use Rattle.retry_rules.specs.declared.Sender.{Sender}
 use Rattle.retry_rules.specs.declared.Receiver.{Receiver}
-use Rattle.retry_rules.specs.declared.Answered.{Answered}
-use Rattle.retry_rules.specs.declared.Offered.{Offered}
-use Rattle.retry_rules.specs.declared.Sent.{Sent}
-use Rattle.retry_rules.specs.declared.Ticked.{Ticked}
-use Rattle.retry_rules.specs.declared.Begun.{Begun}
-use Rattle.retry_rules.specs.declared.Arrived.{Arrived}
+use Rattle.retry_rules.specs.Answers.{Answered, Offered, Sent, Ticked, Begun, Arrived}
 
 -- a fresh sender, a reply, a damaged reply, a reset
 abbrev pub refused_sender : Sender → ℕ → Answered

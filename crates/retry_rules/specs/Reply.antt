@@ -3,7 +3,7 @@ use Rattle.std.specs.Prelude.{ℕ, ◌-◌, Bool, cond, not, List, [], ◌∷◌
 use Rattle.refusal.specs.Order.{Check, check, outcome}
 use Rattle.retry_rules.specs.declared.Counters.{Counters}
 use Rattle.retry_rules.specs.declared.Sender.{Sender}
-use Rattle.retry_rules.specs.declared.Answered.{Answered}
+use Rattle.retry_rules.specs.Answers.{Answered}
 use Rattle.retry_rules.specs.Numbers.{after, one_more, among_last}
 use Rattle.retry_rules.specs.States.{is_down, sender_rule}
 use Rattle.retry_rules.specs.Refused.{refused_sender}

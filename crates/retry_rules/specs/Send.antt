@@ -1,12 +1,12 @@
 -- A send: the segment at the send point goes out, and the send point moves on. Past the last stored segment it sends nothing and changes nothing.
 -- `lent` is the length of the run of eight buffers, `output` that of the output.
-use Rattle.std.specs.Prelude.{ℕ, ◌+◌, max, Bool, true, false, cond, not, ◌&&◌, List, [], ◌∷◌, ltb, length, get_or}
+use Rattle.std.specs.Prelude.{ℕ, ◌+◌, max, Bool, true, cond, not, ◌&&◌, List, [], ◌∷◌, ltb, length}
 use Rattle.refusal.specs.Order.{Check, check, outcome, left}
 use Rattle.retry_rules.specs.declared.Counters.{Counters}
 use Rattle.retry_rules.specs.declared.Sender.{Sender}
-use Rattle.retry_rules.specs.declared.Sent.{Sent}
+use Rattle.retry_rules.specs.Answers.{Sent}
 use Rattle.retry_rules.specs.Numbers.{after}
-use Rattle.retry_rules.specs.States.{is_down, sender_rule, buffers_rule, slot_of}
+use Rattle.retry_rules.specs.States.{is_down, sender_rule, buffers_rule, slot_of, slot_in}
 use Rattle.retry_rules.specs.Refused.{refused_send}
 use Rattle.retry_rules.specs.Lent.{laid, held_length, held_bytes}
 
@@ -52,8 +52,8 @@ due_sent s =
       refusal = 0;
       sent = true;
       number = send_point s.counters;
-      channel = get_or s.slots.channels (due_slot s.counters) 0;
-      bad = get_or s.slots.bad (due_slot s.counters) false;
+      channel = (slot_in s (due_slot s.counters)).channel;
+      bad = (slot_in s (due_slot s.counters)).bad;
       length = held_length s (due_slot s.counters);
       sender = record { counters = one_sent s.counters; slots = s.slots };
     }

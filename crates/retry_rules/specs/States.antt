@@ -1,7 +1,8 @@
 -- The written rules of the two states. Refusal 1 is given where one is broken; every fresh state and every state handed back keeps it.
-use Rattle.std.specs.Prelude.{ℕ, ◌+◌, ◌*◌, ◌%◌, Bool, cond, ◌&&◌, ◌||◌, ◌≡◌, ltb, leb, eqb, length, get_or}
+use Rattle.std.specs.Prelude.{ℕ, ◌+◌, ◌*◌, ◌%◌, Bool, false, cond, ◌&&◌, ◌||◌, ◌≡◌, ltb, leb, eqb, length, get_or}
 use Rattle.retry_rules.specs.declared.Counters.{Counters}
 use Rattle.retry_rules.specs.declared.Sender.{Sender}
+use Rattle.retry_rules.specs.declared.Slot.{Slot}
 use Rattle.retry_rules.specs.declared.Receiver.{Receiver}
 use Rattle.retry_rules.specs.Numbers.{time_allowed, count_rule, every_below}
 use Rattle.segment_size.specs.Sizes.{size_allowed}
@@ -38,11 +39,18 @@ counters_rule c =
 abbrev pub slot_of : Counters → ℕ → ℕ
 slot_of c i = (c.oldest + i) % 8
 
+-- a slot of a fresh sender
+abbrev pub no_slot : Slot
+no_slot = record { length = 0; channel = 0; bad = false }
+
+-- what buffer i holds beside its bytes
+abbrev pub slot_in : Sender → ℕ → Slot
+slot_in s i = get_or s.slots i no_slot
+
 -- a stored segment has 1 to S bytes and a channel from 0 to 15
 unfoldable pub slot_rule : Sender → ℕ → Bool
 slot_rule s i =
-    ltb 0 (get_or s.slots.lengths i 0)
-    && (leb (get_or s.slots.lengths i 0) s.counters.size && ltb (get_or s.slots.channels i 0) 16)
+    ltb 0 (slot_in s i).length && (leb (slot_in s i).length s.counters.size && ltb (slot_in s i).channel 16)
 
 -- the slots of the stored segments keep theirs; what the others hold does not matter
 unfoldable pub slots_rule : Sender → Bool
@@ -51,11 +59,9 @@ slots_rule s = every_below s.counters.stored (λ i. slot_rule s (slot_of s.count
 unfoldable pub sender_rule : Sender → Bool
 sender_rule s = counters_rule s.counters && slots_rule s
 
--- the slots' arrays have eight places each: their type says so, and so it is no part of the rule
+-- there are eight slots: their type says so, and so it is no part of the rule
 pub record Eight (s : Sender) : Type 0 where
-  pub lengths : length s.slots.lengths ≡ 8
-  pub channels : length s.slots.channels ≡ 8
-  pub bad : length s.slots.bad ≡ 8
+  pub slots : length s.slots ≡ 8
 
 -- the eight buffers are one lent run of 8 times S bytes
 abbrev pub buffers_rule : Sender → ℕ → Bool

@@ -3,7 +3,7 @@ use Rattle.std.specs.Prelude.{◌+◌, ◌-◌, cond, ltb, eqb}
 use Rattle.refusal.specs.Order.{outcome}
 use Rattle.retry_rules.specs.declared.Counters.{Counters}
 use Rattle.retry_rules.specs.declared.Sender.{Sender}
-use Rattle.retry_rules.specs.declared.Ticked.{Ticked}
+use Rattle.retry_rules.specs.Answers.{Ticked}
 use Rattle.retry_rules.specs.States.{is_down}
 use Rattle.retry_rules.specs.Refused.{refused_tick}
 use Rattle.retry_rules.specs.Reply.{timer_at, to_oldest, sender_checks, with_counters}

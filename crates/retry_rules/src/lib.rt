@@ -7,7 +7,7 @@ pub const UP: u8 = 1;
 pub const DOWN: u8 = 2;
 
 // The sender's numbers. All zeros is no sender: its link is neither up nor down.
-#[derive(Clone, Copy)]
+#[derive(Clone, Copy, Debug, PartialEq, Eq)]
 pub struct Counters {
     // the number of the oldest segment, the first not released
     pub oldest: u8,
@@ -26,26 +26,27 @@ pub struct Counters {
     pub columns: u16,
     // S, the segment size
     pub size: u16,
-    // UP or DOWN
+    // UP or DOWN. It is a number and no enum: a host may lend a state with any byte here, which is refused as out of range.
     pub link: u8,
 }
 
-// What each of the eight buffers holds beside its bytes. Segment number k is in buffer k mod 8.
-#[derive(Clone, Copy)]
-pub struct Slots {
-    pub lengths: [u16; 8],
-    pub channels: [u8; 8],
-    pub bad: [bool; 8],
+// What one of the eight buffers holds beside its bytes.
+#[derive(Clone, Copy, Debug, PartialEq, Eq)]
+pub struct Slot {
+    pub length: u16,
+    pub channel: u8,
+    pub bad: bool,
 }
 
-#[derive(Clone, Copy)]
+#[derive(Clone, Copy, Debug, PartialEq, Eq)]
 pub struct Sender {
     pub counters: Counters,
-    pub slots: Slots,
+    // one for each buffer; segment number k is in buffer k mod 8
+    pub slots: [Slot; 8],
 }
 
 // All zeros is no receiver: S is not allowed.
-#[derive(Clone, Copy)]
+#[derive(Clone, Copy, Debug, PartialEq, Eq)]
 pub struct Receiver {
     pub expected: u8,
     // how many of the last eight numbers before the expected one were really received
@@ -54,59 +55,33 @@ pub struct Receiver {
     pub size: u16,
 }
 
-// In each answer `refusal` is the number of document 01's table, 0 for none; a refusal brings zeros beside the state that was given.
-
-// What a fresh sender, a reply, a damaged reply and a reset answer.
-#[derive(Clone, Copy)]
-pub struct Answered {
-    pub refusal: u8,
-    pub sender: Sender,
-}
-
-// An offer that is accepted answers with its segment number.
-#[derive(Clone, Copy)]
-pub struct Offered {
-    pub refusal: u8,
-    pub number: u8,
-    pub sender: Sender,
-}
-
-// `sent` false and no refusal: there was nothing to send.
-#[derive(Clone, Copy)]
-pub struct Sent {
-    pub refusal: u8,
-    pub sent: bool,
+// What a send hands out beside the bytes.
+#[derive(Clone, Copy, Debug, PartialEq, Eq)]
+pub struct Segment {
     pub number: u8,
     pub channel: u8,
     pub bad: bool,
     pub length: u16,
-    pub sender: Sender,
 }
 
-// `fell`: this tick took the link down.
-#[derive(Clone, Copy)]
-pub struct Ticked {
-    pub refusal: u8,
-    pub fell: bool,
-    pub sender: Sender,
+// What the receiver answers to a segment, with a segment's number.
+#[derive(Clone, Copy, Debug, PartialEq, Eq)]
+pub enum Reply {
+    Ack(u8),
+    Nack(u8),
 }
 
-// What a fresh receiver answers.
-#[derive(Clone, Copy)]
-pub struct Begun {
-    pub refusal: u8,
-    pub receiver: Receiver,
-}
-
-// The reply is ACK or NACK with `number`. What is delivered has a channel, a bad mark and a length; where nothing is delivered they are zeros.
-#[derive(Clone, Copy)]
-pub struct Arrived {
-    pub refusal: u8,
-    pub delivered: bool,
-    pub nack: bool,
-    pub number: u8,
+// What is delivered, beside its bytes.
+#[derive(Clone, Copy, Debug, PartialEq, Eq)]
+pub struct Delivered {
     pub channel: u8,
     pub bad: bool,
     pub length: u16,
-    pub receiver: Receiver,
+}
+
+// What an arrival answers: the reply that goes out, and what is delivered, if it is.
+#[derive(Clone, Copy, Debug, PartialEq, Eq)]
+pub struct Arrival {
+    pub reply: Reply,
+    pub delivered: Option<Delivered>,
 }

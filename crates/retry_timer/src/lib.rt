@@ -2,69 +2,61 @@
 #![tactic(auto)]
 
 ghost use Rattle.std.specs.Prelude.{◌≡◌, ◌<◌};
+ghost use Rattle.retry_rules.specs.Answers.{tick_says, tick_beside};
 ghost use Rattle.retry_rules.specs.Tick.{expired, fallen, ticked, tick_of};
 
-use retry_rules::{Counters, DOWN, Sender, Ticked};
-use retry_state::sender_refusal;
+use refusal::Refusal;
+use retry_rules::{Counters, DOWN, Sender};
+use retry_state::may_call;
 
 // An expiry is counted, and the timer is at its start.
 fn expired(c: Counters) -> Counters
     requires { c.expiries < 3 }
     ensures { result ≡ expired c }
 {
-    let mut d = c;
-    d.timer = c.columns;
-    d.expiries = c.expiries + 1;
-    d
+    Counters {
+        timer: c.columns,
+        expiries: c.expiries + 1,
+        ..c
+    }
 }
 
 // The link goes down; nothing is sent, and the send point stays.
 fn fallen(c: Counters) -> Counters
     ensures { result ≡ fallen c }
 {
-    let mut d = c;
-    d.link = DOWN;
-    d
+    Counters { link: DOWN, ..c }
 }
 
 // Expiries one and two: send point to the oldest, timer restarts. The third takes the link down.
+#[tactic(auto, unfolding(retry_rules::specs::Tick::ticked))]
 fn ticked(c: Counters) -> Counters
-    requires { (c.expiries < 3) × (0 < c.timer) }
+    requires { c.expiries < 3 }
     ensures { result ≡ ticked c }
 {
     if c.outstanding == 0 {
-        return c;
-    }
-    if c.timer == 1 {
-        if c.expiries < 2 {
-            let mut d = expired(c);
-            d.point = 0;
-            return d;
+        c
+    } else if c.timer != 1 {
+        Counters {
+            timer: c.timer.saturating_sub(1),
+            ..c
         }
-        return fallen(expired(c));
+    } else if c.expiries < 2 {
+        Counters {
+            point: 0,
+            ..expired(c)
+        }
+    } else {
+        fallen(expired(c))
     }
-    let mut d = c;
-    d.timer = c.timer - 1;
-    d
 }
 
-// One column. `fell`: this call took the link down, and is not itself refused.
-pub fn tick(sender: Sender) -> Ticked
-    ensures { result ≡ tick_of sender }
+// One column. It answers whether this call took the link down, and that call is not itself refused.
+#[tactic(auto, using(retry_rules::proofs::Errs::tick_err, retry_rules::proofs::Done::tick_done, retry_rules::proofs::Seen::sender_seen))]
+pub fn tick(sender: &mut Sender) -> Result<bool, Refusal>
+    ensures { (tick_says result ≡ tick_beside (tick_of sender.old)) × (sender.new ≡ (tick_of sender.old).sender) }
 {
-    let refusal = sender_refusal(sender);
-    if refusal != 0 {
-        return Ticked {
-            refusal,
-            fell: false,
-            sender,
-        };
-    }
-    let counters = ticked(sender.counters);
-    let slots = sender.slots;
-    Ticked {
-        refusal: 0,
-        fell: counters.link == DOWN,
-        sender: Sender { counters, slots },
-    }
+    may_call(*sender)?;
+    sender.counters = ticked(sender.counters);
+    Ok(sender.counters.link == DOWN)
 }

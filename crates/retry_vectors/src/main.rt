@@ -2,7 +2,9 @@
 // standard input; tests/retry makes it, and what this program must print, from an implementation of its own.
 #![tactic(auto)]
 
-use retry_rules::{Arrived, Receiver, Sender};
+ghost use Rattle.std.specs.Prelude.{◌≤◌, IfOk, length};
+
+use retry_rules::{Arrival, Receiver, Sender};
 use std::io;
 use std::io::Read;
 
@@ -10,11 +12,11 @@ mod print;
 mod script;
 mod settings;
 
-ghost use Rattle.std.specs.Prelude.{◌≤◌, IfOk, length};
-
-use crate::print::{line_end, mark, memory_sum, numbers, print_receiver, print_sender, word};
-use crate::script::{byte, clamped, field, flag, wide};
-use crate::settings::{set_receiver, set_sender};
+use crate::print::{
+    print_arrived, print_memory, print_receiver, print_sender, print_sent, refusal_number,
+};
+use crate::script::{Call, ReceiverCall, SenderCall, What, clamped};
+use crate::settings::{NO_RECEIVER, NO_SENDER, set_receiver, set_sender};
 
 // A call is 16 bytes: what is called, a flag byte, a seed, a spare byte, and three numbers of four bytes.
 const CALL: usize = 16;
@@ -22,7 +24,8 @@ const CALL: usize = 16;
 // The bytes of a script that are read.
 const MOST_READ: usize = 65536;
 
-// Reads until the buffer is full or the input ends, and answers how many bytes came.
+// Reads until the buffer is full or the input ends, and answers how many bytes came. Each program that reads has this for itself: what stands on the
+// input no equation says, and a contract of a library's public function is equations alone.
 fn read_full(rt: &impl Input, buf: &mut [u8]) -> io::Result<usize>
     ensures { IfOk result (λ n. n ≤ length buf.old) }
 {
@@ -41,251 +44,150 @@ fn read_full(rt: &impl Input, buf: &mut [u8]) -> io::Result<usize>
     Ok(n)
 }
 
-#[derive(Clone, Copy)]
-struct Part {
-    from: usize,
-    to: usize,
-}
-
-#[derive(Clone, Copy)]
-struct World {
+// Both ends, the memory that is lent for the sender's buffers, and that which is lent for outputs.
+#[derive(Drop)]
+pub struct World {
     sender: Sender,
     receiver: Receiver,
+    memory: [u8; 1024],
+    output: [u8; 128],
 }
 
-// A segment's bytes are a part of the script itself, from a place that the seed gives.
-fn segment(call: &[u8], script: &[u8], bytes: u32) -> Part
-    ensures { (result.from ≤ result.to) × (result.to ≤ length script.now) }
-{
-    let from = clamped(8 * wide(byte(call, 2)), script.len());
-    let n = clamped(bytes, script.len() - from);
-    Part { from, to: from + n }
-}
-
-fn fresh_sender(rt: &impl Print, call: &[u8]) -> io::Result<Sender> {
-    let a = retry_beginning::fresh_sender(field(call, 0), field(call, 1));
-    word(rt, "fresh-sender")?;
-    numbers(rt, &[a.refusal as u32])?;
-    Ok(a.sender)
-}
-
-fn reset(rt: &impl Print, call: &[u8], sender: Sender) -> io::Result<Sender> {
-    let a = retry_beginning::reset(sender, field(call, 0), field(call, 1));
-    word(rt, "reset")?;
-    numbers(rt, &[a.refusal as u32])?;
-    Ok(a.sender)
-}
-
-fn offer(
-    rt: &impl Print,
-    call: &[u8],
-    script: &[u8],
-    sender: Sender,
-    memory: &mut [u8],
-) -> io::Result<Sender> {
-    let part = segment(call, script, field(call, 1));
-    let from = part.from;
-    let to = part.to;
-    let lent = clamped(field(call, 2), memory.len());
-    let a = retry_offer::offer(
-        sender,
-        &mut memory[..lent],
-        field(call, 0),
-        flag(call, 0),
-        &script[from..to],
-    );
-    word(rt, "offer")?;
-    numbers(rt, &[a.refusal as u32, a.number as u32])?;
-    Ok(a.sender)
-}
-
-fn send(
-    rt: &impl Print,
-    call: &[u8],
-    sender: Sender,
-    memory: &[u8],
-    output: &mut [u8],
-) -> io::Result<Sender> {
-    let room = clamped(field(call, 1), output.len());
-    let lent = clamped(field(call, 2), memory.len());
-    let a = retry_send::send(sender, &memory[..lent], &mut output[..room]);
-    word(rt, "send")?;
-    numbers(
-        rt,
-        &[
-            a.refusal as u32,
-            mark(a.sent),
-            a.number as u32,
-            a.channel as u32,
-            mark(a.bad),
-            a.length as u32,
-        ],
-    )?;
-    Ok(a.sender)
-}
-
-fn reply(rt: &impl Print, call: &[u8], sender: Sender) -> io::Result<Sender> {
-    let a = retry_replies::reply(sender, flag(call, 0), field(call, 0));
-    word(rt, "reply")?;
-    numbers(rt, &[a.refusal as u32])?;
-    Ok(a.sender)
-}
-
-fn damaged_reply(rt: &impl Print, sender: Sender) -> io::Result<Sender> {
-    let a = retry_replies::damaged_reply(sender);
-    word(rt, "damaged-reply")?;
-    numbers(rt, &[a.refusal as u32])?;
-    Ok(a.sender)
-}
-
-fn tick(rt: &impl Print, sender: Sender) -> io::Result<Sender> {
-    let a = retry_timer::tick(sender);
-    word(rt, "tick")?;
-    numbers(rt, &[a.refusal as u32, mark(a.fell)])?;
-    Ok(a.sender)
-}
-
-fn fresh_receiver(rt: &impl Print, call: &[u8]) -> io::Result<Receiver> {
-    let a = retry_receiver::fresh_receiver(field(call, 1));
-    word(rt, "fresh-receiver")?;
-    numbers(rt, &[a.refusal as u32])?;
-    Ok(a.receiver)
-}
-
-fn print_arrived(rt: &impl Print, a: Arrived) -> io::Result<()> {
-    numbers(
-        rt,
-        &[
-            a.refusal as u32,
-            mark(a.delivered),
-            mark(a.nack),
-            a.number as u32,
-            a.channel as u32,
-            mark(a.bad),
-            a.length as u32,
-        ],
-    )
-}
-
-fn arrival(
-    rt: &impl Print,
-    call: &[u8],
-    script: &[u8],
-    given: Receiver,
-    output: &mut [u8],
-) -> io::Result<Receiver> {
-    let both = field(call, 2);
-    let part = segment(call, script, both % 65536);
-    let from = part.from;
-    let to = part.to;
-    let room = clamped(both / 65536, output.len());
-    let a = retry_arrival::arrival(
-        given,
-        field(call, 0),
-        field(call, 1),
-        flag(call, 0),
-        &script[from..to],
-        flag(call, 1),
-        &mut output[..room],
-    );
-    word(rt, "arrival")?;
-    print_arrived(rt, a)?;
-    Ok(a.receiver)
-}
-
-fn damaged_arrival(rt: &impl Print, given: Receiver) -> io::Result<Receiver> {
-    let a = retry_receiver::damaged_arrival(given);
-    word(rt, "damaged-arrival")?;
-    print_arrived(rt, a)?;
-    Ok(a.receiver)
-}
-
-fn sender_call(
-    rt: &impl Print,
-    what: u8,
-    call: &[u8],
-    script: &[u8],
-    sender: Sender,
-    memory: &mut [u8],
-    output: &mut [u8],
-) -> io::Result<Sender> {
-    match what {
-        0 => fresh_sender(rt, call),
-        1 => offer(rt, call, script, sender, memory),
-        2 => send(rt, call, sender, memory, output),
-        3 => reply(rt, call, sender),
-        4 => damaged_reply(rt, sender),
-        5 => tick(rt, sender),
-        6 => reset(rt, call, sender),
-        _ => set_sender(rt, call, sender),
+fn sender_call(rt: &impl Print, of: SenderCall, call: Call, world: &mut World) -> io::Result<()> {
+    let (first, _) = call.flags();
+    match of {
+        SenderCall::Fresh => {
+            let made = retry_beginning::fresh_sender(call.field(0), call.field(1));
+            world.sender = made.unwrap_or(NO_SENDER);
+            print!(rt; "fresh-sender {}", refusal_number(made))
+        }
+        SenderCall::Offer => {
+            let lent = clamped(call.field(2), world.memory.len());
+            let bytes = call.segment(call.field(1));
+            let memory = &mut world.memory[..];
+            let answer = retry_offer::offer(
+                &mut world.sender,
+                &mut memory[..lent],
+                call.field(0),
+                first,
+                bytes,
+            );
+            print!(rt; "offer {} {}", refusal_number(answer), answer.unwrap_or(0))
+        }
+        SenderCall::Send => {
+            let room = clamped(call.field(1), world.output.len());
+            let lent = clamped(call.field(2), world.memory.len());
+            let output = &mut world.output[..];
+            let answer = retry_send::send(
+                &mut world.sender,
+                &world.memory[..lent],
+                &mut output[..room],
+            );
+            print_sent(rt, answer)
+        }
+        SenderCall::Reply => {
+            let answer = retry_replies::reply(&mut world.sender, first, call.field(0));
+            print!(rt; "reply {}", refusal_number(answer))
+        }
+        SenderCall::DamagedReply => {
+            let answer = retry_replies::damaged_reply(&world.sender);
+            print!(rt; "damaged-reply {}", refusal_number(answer))
+        }
+        SenderCall::Tick => {
+            let answer = retry_timer::tick(&mut world.sender);
+            print!(rt;
+                "tick {} {}",
+                refusal_number(answer),
+                u8::from(answer.unwrap_or(false))
+            )
+        }
+        SenderCall::Reset => {
+            let answer = retry_beginning::reset(&mut world.sender, call.field(0), call.field(1));
+            print!(rt; "reset {}", refusal_number(answer))
+        }
+        SenderCall::Set => {
+            set_sender(call, &mut world.sender);
+            print!(rt; "set-sender")
+        }
     }
 }
 
 fn receiver_call(
     rt: &impl Print,
-    what: u8,
-    call: &[u8],
-    script: &[u8],
-    given: Receiver,
-    output: &mut [u8],
-) -> io::Result<Receiver> {
-    match what {
-        8 => fresh_receiver(rt, call),
-        9 => arrival(rt, call, script, given, output),
-        10 => damaged_arrival(rt, given),
-        _ => set_receiver(rt, call, given),
+    of: ReceiverCall,
+    call: Call,
+    world: &mut World,
+) -> io::Result<()> {
+    match of {
+        ReceiverCall::Fresh => {
+            let made = retry_receiver::fresh_receiver(call.field(1));
+            world.receiver = made.unwrap_or(NO_RECEIVER);
+            print!(rt; "fresh-receiver {}", refusal_number(made))
+        }
+        ReceiverCall::Arrival => {
+            let (bad, room) = call.flags();
+            let both = call.field(2);
+            let bytes = call.segment(both % 65536);
+            let lent = clamped(both / 65536, world.output.len());
+            let output = &mut world.output[..];
+            let answer = retry_arrival::arrival(
+                &mut world.receiver,
+                call.field(0),
+                call.field(1),
+                bad,
+                bytes,
+                room,
+                &mut output[..lent],
+            );
+            print!(rt; "arrival")?;
+            print_arrived(rt, answer)
+        }
+        ReceiverCall::DamagedArrival => {
+            let answer = retry_receiver::damaged_arrival(&world.receiver);
+            print!(rt; "damaged-arrival")?;
+            print_arrived(
+                rt,
+                answer.map(|reply| Arrival {
+                    reply,
+                    delivered: None,
+                }),
+            )
+        }
+        ReceiverCall::Set => {
+            set_receiver(call, &mut world.receiver);
+            print!(rt; "set-receiver")
+        }
     }
 }
 
-fn step(
-    rt: &impl Print,
-    call: &[u8],
-    script: &[u8],
-    world: World,
-    memory: &mut [u8],
-    output: &mut [u8],
-) -> io::Result<World> {
-    let sender = world.sender;
-    let given = world.receiver;
-    let what = byte(call, 0);
-    if what < 8 {
-        let next = sender_call(rt, what, call, script, sender, memory, output)?;
-        print_sender(rt, next)?;
-        memory_sum(rt, memory, output)?;
-        return Ok(World {
-            sender: next,
-            receiver: given,
-        });
+// One call, with the state of its end after it, and with what the lent memory then holds.
+fn step(rt: &impl Print, call: Call, world: &mut World) -> io::Result<()> {
+    match call.what() {
+        What::Sender(of) => {
+            sender_call(rt, of, call, world)?;
+            print_sender(rt, world.sender)?;
+        }
+        What::Receiver(of) => {
+            receiver_call(rt, of, call, world)?;
+            print_receiver(rt, world.receiver)?;
+        }
     }
-    let next = receiver_call(rt, what, call, script, given, output)?;
-    print_receiver(rt, next)?;
-    memory_sum(rt, memory, output)?;
-    Ok(World {
-        sender,
-        receiver: next,
-    })
-}
-
-fn run(rt: &impl Print, script: &[u8], memory: &mut [u8], output: &mut [u8]) -> io::Result<()> {
-    let begun = retry_beginning::fresh_sender(1, 8);
-    let sender = begun.sender;
-    let begun = retry_receiver::fresh_receiver(8);
-    let receiver = begun.receiver;
-    let mut world = World { sender, receiver };
-    let mut at: usize = 0;
-    while CALL <= script.len() - at {
-        let to = at + CALL;
-        world = step(rt, &script[at..to], script, world, memory, output)?;
-        line_end(rt)?;
-        at = to;
-    }
-    Ok(())
+    print_memory(rt, world)?;
+    println!(rt)
 }
 
 fn main(rt: HostRuntime) -> io::Result<()> {
     let mut input = [0u8; MOST_READ];
     let n = read_full(&rt, &mut input)?;
-    let mut memory = [170u8; 1024];
-    let mut output = [85u8; 128];
-    run(&rt, &input[..n], &mut memory, &mut output)
+    let script = &input[..n];
+    let mut world = World {
+        sender: retry_beginning::fresh_sender(1, 8).unwrap_or(NO_SENDER),
+        receiver: retry_receiver::fresh_receiver(8).unwrap_or(NO_RECEIVER),
+        memory: [170; 1024],
+        output: [85; 128],
+    };
+    for bytes in script.chunks_exact(CALL) {
+        step(&rt, Call { bytes, script }, &mut world)?;
+    }
+    Ok(())
 }

@@ -1,84 +1,72 @@
 // What is printed: words and decimal numbers, parted by one space.
-use crate::script::wide;
-use retry_rules::{Counters, Receiver, Sender};
+use crate::World;
+use refusal::Refusal;
+use retry_rules::{Arrival, Receiver, Reply, Segment, Sender};
 use std::io;
 
-pub fn word(rt: &impl Print, w: &str) -> io::Result<()> {
-    print!(rt; "{w}")
-}
-
-fn number(rt: &impl Print, n: u32) -> io::Result<()> {
-    print!(rt; " {n}")
-}
-
-// A mark is 1 or 0.
-pub fn mark(b: bool) -> u32 {
-    if b { 1 } else { 0 }
-}
-
-pub fn line_end(rt: &impl Print) -> io::Result<()> {
-    println!(rt)
-}
-
-pub fn numbers(rt: &impl Print, ns: &[u32]) -> io::Result<()> {
-    let mut i = 0;
-    while i < ns.len() {
-        number(rt, ns[i])?;
-        i += 1;
+// The number of a refusal, and 0 for none.
+pub fn refusal_number<T: Copy>(answer: Result<T, Refusal>) -> u8 {
+    match answer {
+        Ok(_) => 0,
+        Err(refusal) => refusal.number(),
     }
-    Ok(())
 }
 
-fn print_window(rt: &impl Print, c: Counters) -> io::Result<()> {
-    numbers(
-        rt,
-        &[
-            c.oldest as u32,
-            c.stored as u32,
-            c.outstanding as u32,
-            c.point as u32,
-            c.released as u32,
-        ],
-    )
+// A send: its refusal, whether a segment goes out, and what is said of it.
+pub fn print_sent(rt: &impl Print, sent: Result<Option<Segment>, Refusal>) -> io::Result<()> {
+    match sent {
+        Ok(Some(x)) => {
+            let bad = u8::from(x.bad);
+            print!(rt; "send 0 1 {} {} {bad} {}", x.number, x.channel, x.length)
+        }
+        Ok(None) => print!(rt; "send 0 0 0 0 0 0"),
+        Err(refusal) => print!(rt; "send {} 0 0 0 0 0", refusal.number()),
+    }
 }
 
-fn print_timer(rt: &impl Print, c: Counters) -> io::Result<()> {
-    numbers(
-        rt,
-        &[
-            c.timer as u32,
-            c.expiries as u32,
-            c.columns as u32,
-            c.size as u32,
-            c.link as u32,
-        ],
-    )
+// An arrival: its refusal, whether it is delivered, the reply, NACK or not and its number, and what is said of what is delivered.
+pub fn print_arrived(rt: &impl Print, arrived: Result<Arrival, Refusal>) -> io::Result<()> {
+    let answer = match arrived {
+        Ok(answer) => answer,
+        Err(refusal) => return print!(rt; " {} 0 0 0 0 0 0", refusal.number()),
+    };
+    let (nack, number) = match answer.reply {
+        Reply::Ack(number) => (0, number),
+        Reply::Nack(number) => (1, number),
+    };
+    match answer.delivered {
+        Some(d) => {
+            let bad = u8::from(d.bad);
+            print!(rt; " 0 1 {nack} {number} {} {bad} {}", d.channel, d.length)
+        }
+        None => print!(rt; " 0 0 {nack} {number} 0 0 0"),
+    }
 }
 
 pub fn print_sender(rt: &impl Print, sender: Sender) -> io::Result<()> {
     let c = sender.counters;
-    word(rt, " |")?;
-    print_window(rt, c)?;
-    print_timer(rt, c)
+    print!(rt;
+        " | {} {} {} {} {}",
+        c.oldest, c.stored, c.outstanding, c.point, c.released
+    )?;
+    print!(rt;
+        " {} {} {} {} {}",
+        c.timer, c.expiries, c.columns, c.size, c.link
+    )
 }
 
 pub fn print_receiver(rt: &impl Print, r: Receiver) -> io::Result<()> {
-    word(rt, " |")?;
-    numbers(rt, &[r.expected as u32, r.received as u32, r.size as u32])
+    print!(rt; " | {} {} {}", r.expected, r.received, r.size)
 }
 
 // A sum over bytes that tells their places.
 fn sum(bytes: &[u8]) -> u32 {
-    let mut total: u32 = 0;
-    let mut i = 0;
-    while i < bytes.len() {
-        total = (total * 31 + wide(bytes[i])) % 65521;
-        i += 1;
-    }
-    total
+    bytes.iter().fold(0, |total: u32, b| {
+        ((u64::from(total) * 31 + u64::from(*b)) % 65521) as u32
+    })
 }
 
-pub fn memory_sum(rt: &impl Print, memory: &[u8], output: &[u8]) -> io::Result<()> {
-    word(rt, " |")?;
-    numbers(rt, &[sum(memory), sum(output)])
+// What the memory and the output hold.
+pub fn print_memory(rt: &impl Print, world: &World) -> io::Result<()> {
+    print!(rt; " | {} {}", sum(&world.memory), sum(&world.output))
 }

@@ -1,74 +1,74 @@
 // Calls of the script that set a part of a state, so that it may break its rule.
-use crate::print::word;
-use crate::script::{byte, clamped, field};
-use retry_rules::{Counters, Receiver, Sender, Slots};
-use std::io;
+use crate::script::{Call, clamped};
+use retry_rules::{Counters, Receiver, Sender, Slot};
 
-// The counters with one of them set, and a slot's length or channel: a state that may break its rule.
-fn with_counter(c: Counters, which: u8, to: u32) -> Counters {
-    let mut d = c;
-    let small = (to % 256) as u8;
-    let wide = (to % 65536) as u16;
-    match which {
-        0 => d.oldest = small,
-        1 => d.stored = small,
-        2 => d.outstanding = small,
-        3 => d.point = small,
-        4 => d.released = small,
-        5 => d.timer = wide,
-        6 => d.expiries = small,
-        7 => d.columns = wide,
-        8 => d.size = wide,
-        _ => d.link = small,
-    }
-    d
+// All zeros, which stand where no sender was made.
+pub const NO_SENDER: Sender = Sender {
+    counters: Counters {
+        oldest: 0,
+        stored: 0,
+        outstanding: 0,
+        point: 0,
+        released: 0,
+        timer: 0,
+        expiries: 0,
+        columns: 0,
+        size: 0,
+        link: 0,
+    },
+    slots: [Slot {
+        length: 0,
+        channel: 0,
+        bad: false,
+    }; 8],
+};
+
+// All zeros, which stand where no receiver was made.
+pub const NO_RECEIVER: Receiver = Receiver {
+    expected: 0,
+    received: 0,
+    size: 0,
+};
+
+fn low_byte(n: u32) -> u8 {
+    (n % 256) as u8
 }
 
-fn with_slot(slots: Slots, channel: bool, slot: usize, to: u32) -> Slots {
-    let mut lengths = slots.lengths;
-    let mut channels = slots.channels;
-    let bad = slots.bad;
-    if slot < 8 {
-        if channel {
-            channels[slot] = (to % 256) as u8;
-        } else {
-            lengths[slot] = (to % 65536) as u16;
+fn low_two_bytes(n: u32) -> u16 {
+    (n % 65536) as u16
+}
+
+// One of the counters, or a slot's channel or length. A match on the script's byte and no enum, which would name each field a second time.
+pub fn set_sender(call: Call, sender: &mut Sender) {
+    let to = call.field(1);
+    match call.byte(2) {
+        0 => sender.counters.oldest = low_byte(to),
+        1 => sender.counters.stored = low_byte(to),
+        2 => sender.counters.outstanding = low_byte(to),
+        3 => sender.counters.point = low_byte(to),
+        4 => sender.counters.released = low_byte(to),
+        5 => sender.counters.timer = low_two_bytes(to),
+        6 => sender.counters.expiries = low_byte(to),
+        7 => sender.counters.columns = low_two_bytes(to),
+        8 => sender.counters.size = low_two_bytes(to),
+        9 => sender.counters.link = low_byte(to),
+        which => {
+            if let Some(slot) = sender.slots.get_mut(clamped(call.field(0), 8)) {
+                if which == 10 {
+                    slot.channel = low_byte(to);
+                } else {
+                    slot.length = low_two_bytes(to);
+                }
+            }
         }
     }
-    Slots {
-        lengths,
-        channels,
-        bad,
-    }
 }
 
-pub fn set_sender(rt: &impl Print, call: &[u8], sender: Sender) -> io::Result<Sender> {
-    word(rt, "set-sender")?;
-    let to = field(call, 1);
-    let which = byte(call, 2);
-    let counters = sender.counters;
-    let slots = sender.slots;
-    if which < 10 {
-        return Ok(Sender {
-            counters: with_counter(counters, which, to),
-            slots,
-        });
+pub fn set_receiver(call: Call, receiver: &mut Receiver) {
+    let to = call.field(1);
+    match call.byte(2) {
+        0 => receiver.expected = low_byte(to),
+        1 => receiver.received = low_byte(to),
+        _ => receiver.size = low_two_bytes(to),
     }
-    let slot = clamped(field(call, 0), 8);
-    Ok(Sender {
-        counters,
-        slots: with_slot(slots, which == 10, slot, to),
-    })
-}
-
-pub fn set_receiver(rt: &impl Print, call: &[u8], given: Receiver) -> io::Result<Receiver> {
-    word(rt, "set-receiver")?;
-    let to = field(call, 1);
-    let mut r = given;
-    match byte(call, 2) {
-        0 => r.expected = (to % 256) as u8,
-        1 => r.received = (to % 256) as u8,
-        _ => r.size = (to % 65536) as u16,
-    }
-    Ok(r)
 }

@@ -6,39 +6,30 @@ ghost use Rattle.laws.specs.Lists.{all_of};
 ghost use Rattle.character_rules.specs.Disparity.{is_plus, disparity_of};
 ghost use Rattle.character_rules.specs.Answers.{run_says};
 ghost use Rattle.character_rules.specs.Reading.{reading};
-ghost use Rattle.character_rules.specs.Results.{packed, mark, in_range, run_results, run_closing, run_reading, run_output};
+ghost use Rattle.character_rules.specs.Results.{packed, in_range, run_results, run_closing, run_reading, run_output};
 ghost use Rattle.run_table.specs.Table.{table as halves};
 
-use character_rules::RunRead;
 use disparity::{disparity_of, is_disparity, is_plus};
+use refusal::Refusal;
 
 // Every character of a run is in range. It goes to the end in any case, so that the compiler tests eight at once.
 fn all_in_range(characters: &[u16]) -> bool
     ensures { result ≡ all_of in_range characters.now }
 {
     let mut so_far = true;
-    let mut i = 0;
-    while i < characters.len() {
-        so_far = so_far & (characters[i] < 1024);
-        i += 1;
+    for &character in characters {
+        so_far &= character < 1024;
     }
     so_far
 }
 
-// A disparity as a number: 0 for -1, 1 for +1.
-fn number_of(plus: bool) -> u32
-    ensures { result ≡ mark plus }
-{
-    if plus { 1 } else { 0 }
-}
-
 // The look-up of a run, in the table with whole results, so that it needs no branch.
+// The run writer's look-up has the same line over a table of its own kind: one function for both would be no plainer, since each says what its table means.
 fn half_of(entries: &[u32; 1024], character: usize, p: u32) -> u32
     requires { (entries.now ≡ halves) × (character < 1024) × (p < 2) }
     ensures { (result ≡ packed (reading character (disparity_of (eqb p 1)))) × (result < 4096) }
 {
-    let entry = entries[character];
-    (entry >> (p * 16)) % 65536
+    (entries[character] >> (p * 16)) % 65536
 }
 
 // The run, with the table taken once: the results into the output, and whether the disparity after it is +1.
@@ -48,31 +39,29 @@ fn read_each(characters: &[u16], plus: bool, results: &mut [u16]) -> bool
         × (results.new ≡ run_results characters.now (disparity_of plus) ++ drop (length characters.now) results.old) }
 {
     let entries = run_table::TABLE;
-    let mut p = number_of(plus);
-    let mut i = 0;
-    while i < characters.len() {
-        let result = half_of(&entries, characters[i] as usize, p);
+    let mut p = u32::from(plus);
+    for (i, &character) in characters.iter().enumerate() {
+        let result = half_of(&entries, character as usize, p);
         results[i] = result as u16;
         p = result / 2048;
-        i += 1;
     }
     p == 1
 }
 
 // A run of characters read from a disparity into packed results, with the disparity after it; or refusal 1 or 6.
-pub fn read_run(characters: &[u16], disparity: i32, results: &mut [u16]) -> RunRead
+pub fn read_run(characters: &[u16], disparity: i32, results: &mut [u16]) -> Result<i32, Refusal>
     ensures { (run_says result ≡ run_reading characters.now disparity (length results.old))
         × (results.new ≡ run_output characters.now disparity results.old) }
 {
     if !is_disparity(disparity) {
-        return RunRead::Refused(refusal::OUT_OF_RANGE);
+        return Err(Refusal::OutOfRange);
     }
     if !all_in_range(characters) {
-        return RunRead::Refused(refusal::OUT_OF_RANGE);
+        return Err(Refusal::OutOfRange);
     }
     if results.len() < characters.len() {
-        return RunRead::Refused(refusal::SHORT_OUTPUT);
+        return Err(Refusal::ShortOutput);
     }
     let plus = read_each(characters, is_plus(disparity), results);
-    RunRead::Read(disparity_of(plus))
+    Ok(disparity_of(plus))
 }

@@ -5,30 +5,20 @@ ghost use Rattle.std.specs.Prelude.{◌≡◌, ◌++◌, ◌<◌, ◌≤◌, eqb
 ghost use Rattle.symbol.specs.Symbols.{data_symbol};
 ghost use Rattle.character_rules.specs.Disparity.{disparity_of};
 ghost use Rattle.character_rules.specs.Answers.{run_written_says};
-ghost use Rattle.character_rules.specs.Results.{mark};
 ghost use Rattle.character_rules.specs.Writing.{run_characters, run_end, run_writing, run_stored};
 ghost use Rattle.writer_table.specs.Entries.{form};
 ghost use Rattle.writer_table.specs.Table.{table};
 
-use character_rules::RunWritten;
 use disparity::{disparity_of, is_disparity, is_plus};
+use refusal::Refusal;
 use writer_table::TABLE;
-
-// A disparity as a number: 0 for -1, 1 for +1.
-fn number_of(plus: bool) -> u32
-    ensures { result ≡ mark plus }
-{
-    if plus { 1 } else { 0 }
-}
 
 // The look-up: the byte's character, and 1,024 more where it closes at +1.
 fn look_up(entries: &[u32; 256], byte: u8, p: u32) -> u32
     requires { (entries.now ≡ table) × (p < 2) }
     ensures { result ≡ form (data_symbol byte) (disparity_of (eqb p 1)) }
 {
-    let at = byte as usize;
-    let entry = entries[at];
-    (entry >> (p * 16)) % 65536
+    (entries[byte as usize] >> (p * 16)) % 65536
 }
 
 // The run, with the table taken once: the characters into the output, and the number of the disparity after it.
@@ -39,27 +29,25 @@ fn write_each(bytes: &[u8], from: u32, out: &mut [u16]) -> u32
 {
     let entries = TABLE;
     let mut p = from;
-    let mut i = 0;
-    while i < bytes.len() {
-        let found = look_up(&entries, bytes[i], p);
+    for (i, &byte) in bytes.iter().enumerate() {
+        let found = look_up(&entries, byte, p);
         out[i] = (found % 1024) as u16;
         p = found / 1024;
-        i += 1;
     }
     p
 }
 
 // A run of data bytes written from a disparity into the front of the output, with the disparity after it; or refusal 1 or 6.
-pub fn write_run(bytes: &[u8], disparity: i32, out: &mut [u16]) -> RunWritten
+pub fn write_run(bytes: &[u8], disparity: i32, out: &mut [u16]) -> Result<i32, Refusal>
     ensures { (run_written_says result ≡ run_writing bytes.now disparity (length out.old))
         × (out.new ≡ run_stored bytes.now disparity out.old) }
 {
     if !is_disparity(disparity) {
-        return RunWritten::Refused(refusal::OUT_OF_RANGE);
+        return Err(Refusal::OutOfRange);
     }
     if out.len() < bytes.len() {
-        return RunWritten::Refused(refusal::SHORT_OUTPUT);
+        return Err(Refusal::ShortOutput);
     }
-    let p = write_each(bytes, number_of(is_plus(disparity)), out);
-    RunWritten::Written(disparity_of(p == 1))
+    let p = write_each(bytes, u32::from(is_plus(disparity)), out);
+    Ok(disparity_of(p == 1))
 }

@@ -4,7 +4,9 @@
 ghost use Rattle.std.specs.Prelude.{◌≡◌};
 ghost use Rattle.symbol.specs.Symbols.{named, data_symbol, control_symbol, is_twelve, is_symbol, is_writable, opens_packet, opens_lmp};
 
-#[derive(Clone, Copy)]
+use std::fmt;
+
+#[derive(Clone, Copy, Debug, PartialEq, Eq)]
 pub struct Symbol {
     pub byte: u8,
     pub control: bool,
@@ -138,19 +140,13 @@ impl Symbol {
 pub fn is_twelve(byte: u8) -> bool
     ensures { result ≡ is_twelve byte }
 {
-    if byte % 32 == 28 {
-        return true;
-    }
-    if byte == Symbol::SLP_BYTE {
-        return true;
-    }
-    if byte == Symbol::SUP_BYTE {
-        return true;
-    }
-    if byte == Symbol::EGP_BYTE {
-        return true;
-    }
-    byte == Symbol::EBP_BYTE
+    let others = [
+        Symbol::SLP_BYTE,
+        Symbol::SUP_BYTE,
+        Symbol::EGP_BYTE,
+        Symbol::EBP_BYTE,
+    ];
+    byte % 32 == 28 || others.contains(&byte)
 }
 
 impl Symbol {
@@ -158,49 +154,35 @@ impl Symbol {
     pub fn is_symbol(self) -> bool
         ensures { result ≡ is_symbol self }
     {
-        let byte = self.byte;
-        if self.control {
-            return is_twelve(byte);
-        }
-        true
+        !self.control || is_twelve(self.byte)
     }
 
     // What the writer may be asked for: any but K28.7.
     pub fn is_writable(self) -> bool
         ensures { result ≡ is_writable self }
     {
-        let byte = self.byte;
-        if !self.control {
-            return true;
-        }
-        if byte == Symbol::K28_7_BYTE {
-            return false;
-        }
-        is_twelve(byte)
+        !self.control || (self.byte != Symbol::K28_7_BYTE && is_twelve(self.byte))
     }
 
     // Opens a data packet or a priority packet.
     pub fn opens_packet(self) -> bool
         ensures { result ≡ opens_packet self }
     {
-        let byte = self.byte;
-        if self.control {
-            if byte == Symbol::SDP_BYTE {
-                return true;
-            }
-            return byte == Symbol::SPP_BYTE;
-        }
-        false
+        self.control && matches!(self.byte, Symbol::SDP_BYTE | Symbol::SPP_BYTE)
     }
 
     // Opens a link management packet.
     pub fn opens_lmp(self) -> bool
         ensures { result ≡ opens_lmp self }
     {
-        let byte = self.byte;
-        if self.control {
-            return byte == Symbol::SLP_BYTE;
-        }
-        false
+        self.control && self.byte == Symbol::SLP_BYTE
+    }
+}
+
+// Its name on the line: K28.5, D21.5.
+impl fmt::Display for Symbol {
+    fn fmt<W: fmt::Write>(&self, f: &mut fmt::Formatter<W>) -> fmt::Result {
+        let kind = if self.control { "K" } else { "D" };
+        write!(f, "{kind}{}.{}", self.byte % 32, self.byte / 32)
     }
 }

@@ -1,21 +1,20 @@
 -- Each refusal in its order, and the character.
-use mathlib.Core.Path.{ap, sym, ◌∙◌}
-use native.Mathlib.Omega.{arith}
-use Rattle.laws.proofs.Bools.{true_t}
+use Rattle.std.specs.Prelude.{ℕ, ◌<◌, ◌≤◌}
+use mathlib.Core.Path.{sym, ap, subst, ◌∙◌}
 use Rattle.capture_rules.specs.Calls.{answered}
 use Rattle.capture_rules.proofs.Laws.{character_illegal, character_nowhere, character_found}
-use Rattle.capture_rules.proofs.Packing.{legal_size}
+use Rattle.capture.proofs.Taken.{taken_is_legal, taken_count, refused_illegal, says_8}
 use Rattle.capture.proofs.character_at.Goals as goal
 
-pub returns-then-not-is_legal : goal.returns-then-not-is_legal
-returns-then-not-is_legal c = sym (character_illegal _ _ (sym c.is_legal.ensures ∙ c.if-not-is_legal.true))
+pub returns-in_err-new : goal.returns-in_err-new
+returns-in_err-new c = let e = c.in_err-new.ensures in
+    says_8 _ _ e _ c.from_residual.ensures.1 ∙ sym (character_illegal _ _ (refused_illegal _ _ e))
 
-pub overflow_mul-capture : goal.overflow_mul-capture
-overflow_mul-capture c = let h = legal_size _ (true_t _ (sym c.is_legal.ensures ∙ c.if-not-is_legal.false)) in omega arith
+pub returns-then-count : goal.returns-then-count
+returns-then-count c = let taken = c.in_ok-new.field-0 in let e = c.in_ok-new.ensures in
+    ap answered c.character_of.ensures
+    ∙ sym (character_found _ _ (taken_is_legal _ taken e) (subst (λ (n : ℕ). c.args.place < n) (c.count.ensures ∙ taken_count _ taken e) c.if-count.true))
 
-pub returns-then-place-capture : goal.returns-then-place-capture
-returns-then-place-capture c = ap answered c.character_of.ensures
-    ∙ sym (character_found _ _ (sym c.is_legal.ensures ∙ c.if-not-is_legal.false) c.if-place-capture.true)
-
-pub returns : goal.returns
-returns c = sym (character_nowhere _ _ (sym c.is_legal.ensures ∙ c.if-not-is_legal.false) c.if-place-capture.false)
+pub returns-else-count : goal.returns-else-count
+returns-else-count c = let taken = c.in_ok-new.field-0 in let e = c.in_ok-new.ensures in
+    sym (character_nowhere _ _ (taken_is_legal _ taken e) (subst (λ (n : ℕ). n ≤ c.args.place) (c.count.ensures ∙ taken_count _ taken e) c.if-count.false))

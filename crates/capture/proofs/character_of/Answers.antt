@@ -22,6 +22,6 @@ returns-then-capture-k c = let bytes = c.args.capture.now in
 pub returns : goal.returns
 returns c = let bytes = c.args.capture.now in
     let i = c.args.i in
-    let t = below_at 256 bytes (λ j. (c.shared_slice_known-3-1.given j).fits) in
+    let t = below_at 256 bytes (λ j. (c.type_inv.capture j).fits) in
     c.ten_bits.ensures
     ∙ in_bytes bytes t i (i + i / 4) (i + i / 4 + 1) (6 - 2 * (i % 4)) (omega arith) (omega arith) (omega arith) (omega arith)

@@ -15,5 +15,5 @@ returns-then-n-eq0 c = sym (legal_empty c.args.capture.now c.if-n-eq0.true)
 
 pub returns : goal.returns
 returns c = let bytes = c.args.capture.now in
-    ap₂ (λ (x y : ℕ). eqb (x % y) 0) c.wide8-last.ensures (one_up _ (omega arith))
+    ap₂ (λ (x y : ℕ). eqb (x % y) 0) c.from-last.ensures (one_up _ (omega arith))
     ∙ sym (legal_last bytes (omega arith) (λ h. omega arith))

@@ -1,5 +1,7 @@
 -- Each refusal in its order, with the output as it stood, and the work.
-use mathlib.Core.Path.{sym, ◌∙◌}
+use Rattle.std.specs.Prelude.{ℕ, List, ◌++◌, drop, length}
+use mathlib.Core.Path.{sym, ap, ◌∙◌}
+use Rattle.capture_rules.specs.Capture.{byte_count}
 use native.Mathlib.Omega.{arith}
 use Rattle.capture_rules.proofs.Laws.{pack_too_many, pack_out_of_range, pack_short_output, pack_done}
 use Rattle.capture_packing.proofs.pack.Goals as goal
@@ -26,4 +28,4 @@ returns c =
     let a = c.args in
     let p = pack_done a.characters.now a.out.now (omega arith) (sym c.in_range.ensures ∙ c.if-not-in_range.false)
     (omega arith) in
-    (sym p.answer, c.store_bytes.ensures ∙ sym p.output)
+    (sym p.answer, ap (λ (front : List ℕ). front ++ drop (byte_count (length a.characters.now)) a.out.now) c.store_bytes.ensures ∙ sym p.output)

@@ -1,13 +1,9 @@
--- After the fours and i - 4 * fours turns the first i characters stand, and past them what stood there.
+-- After i turns the first i of the last characters stand, and past them what stood there.
 use mathlib.Core.Path.{◌≡◌}
 use mathlib.Core.List.{◌++◌}
-use Prim.Native.Nat.{◌≤◌, ◌-◌}
-use lib.ListN.{length, take, drop}
+use lib.ListN.{take, drop}
 use Rattle.capture_rules.specs.Capture.{characters_of}
 use Rattle.capture_unpacking.proofs.store_characters.Given as goal
 
 abbrev pub invariant-loop-i : goal.invariant-loop-i
-invariant-loop-i l = (l.i ≤ l.n) × (l.out ≡ take l.i (characters_of l.capture) ++ drop l.i l.initial.out) × (length l.out ≡ length l.initial.out)
-
-abbrev pub decreases-loop-i : goal.decreases-loop-i
-decreases-loop-i l = l.n - l.i
+invariant-loop-i l = l.rest ≡ take l.i (drop l.at (characters_of l.capture.bytes.now)) ++ drop l.i l.initial.rest

@@ -1,54 +1,48 @@
 -- The refusal that is given; else the whole is read.
-use mathlib.Core.Path.{ap, ◌∙◌}
-use native.Mathlib.Omega.{arith}
+use mathlib.Core.Path.{◌≡◌, refl, ap, subst, ◌∙◌}
+use mathlib.Core.List.{List}
+use Prim.Native.Nat.{ℕ}
 use lib.IntN.{ℤ}
 use lib.ListN.{length}
 use mir.Facts.{to_z-of_z}
-use Rattle.laws.proofs.Bools.{true_t}
+use mir.Syntax.{w32}
+use borrow.Author.Rules.{rules}
 use Rattle.refusal.specs.Order.{refusal_of}
 use Rattle.character_rules.specs.Disparity.{is_plus}
-use Rattle.capture_rules.proofs.Packing.{legal_size}
-use Rattle.events_rules.specs.Events.{capture_checks, not_read_capture}
-use Rattle.events_rules.proofs.Answers.{read_refused, read_passed}
+use Rattle.capture_rules.specs.Capture.{character_count, characters_of}
+use Rattle.capture_rules.proofs.Answers.{handed_back}
+use Rattle.capture.specs.declared.Legal.{Legal}
+use Rattle.events_rules.specs.Answers.{CaptureRead, ReadAnswer, read_beside}
+use Rattle.events_rules.specs.Events.{capture_checks}
+use Rattle.events_rules.proofs.Answers.{refused_is}
+use Rattle.events_rules.proofs.Runs.{Ran}
 use Rattle.events.proofs.Whole.{is_read}
 use Rattle.events.proofs.read_capture.Goals as goal
 
-pub returns-then-refusal-ne0 : goal.returns-then-refusal-ne0
-returns-then-refusal-ne0 c =
-    let a = c.args in
-    let same = to_z-of_z c.ranges.disparity in
-    let given = c.refusal_of-refusal.ensures ∙ ap (λ (z : ℤ). refusal_of (capture_checks a.capture.now a.reader z (length a.events.now))) same in
-    let x = read_refused a.capture.now a.reader a.disparity a.events.now _ given c.if-refusal-ne0.true in
-    (ap (λ (z : ℤ). not_read_capture a.reader z c.refusal_of-refusal.result) same ∙ x.answers, x.leaves)
+abbrev counted : ℕ → ReadAnswer
+counted n = record { refusal = 0; count = n }
 
-pub read_each-p-requires : goal.read_each-p-requires
-read_each-p-requires c =
+pub returns-in_err-may_read : goal.returns-in_err-may_read
+returns-in_err-may_read c =
     let a = c.args in
-    let same = to_z-of_z c.ranges.disparity in
-    let given = c.refusal_of-refusal.ensures
-    ∙ ap (λ (z : ℤ). refusal_of (capture_checks a.capture.now a.reader z (length a.events.now))) same in
-    let p = read_passed a.capture.now a.reader a.disparity a.events.now _ given c.if-refusal-ne0.false in
-    (legal_size a.capture.now (true_t _ p.legality), p.fits, p.rule)
-
-pub overflow_mul-result : goal.overflow_mul-result
-overflow_mul-result c =
-    let a = c.args in
-    let same = to_z-of_z c.ranges.disparity in
-    let given = c.refusal_of-refusal.ensures
-    ∙ ap (λ (z : ℤ). refusal_of (capture_checks a.capture.now a.reader z (length a.events.now))) same in
-    let p = read_passed a.capture.now a.reader a.disparity a.events.now _ given c.if-refusal-ne0.false in
-    let most = legal_size a.capture.now (true_t _ p.legality) in
-    omega arith
+    let same = to_z-of_z {w = w32} {z = a.disparity.now} (search rules) in
+    refused_is a.capture.now a.reader.now a.disparity.now a.events.now _ _ (handed_back _ _ c.from_residual.ensures.1)
+    (c.in_err-may_read.ensures ∙ ap (λ (z : ℤ). refusal_of (capture_checks a.capture.now a.reader.now z (length a.events.now))) same)
 
 pub returns : goal.returns
 returns c =
-    let closing = c.disparity_of in
-    let each = c.read_each-p in
-    let sign = c.is_plus in
     let a = c.args in
-    let same = to_z-of_z c.ranges.disparity in
-    let given = c.refusal_of-refusal.ensures
-    ∙ ap (λ (z : ℤ). refusal_of (capture_checks a.capture.now a.reader z (length a.events.now))) same in
-    is_read a.capture.now a.reader a.disparity a.events.now _ given
-    c.if-refusal-ne0.false _ (sign.ensures ∙ ap is_plus same)
-    _ _ _ each.ensures _ closing.ensures
+    let each = c.read_each-p in
+    let same = to_z-of_z {w = w32} {z = a.disparity.now} (search rules) in
+    let given = c.in_ok-may_read.ensures ∙ ap (λ (z : ℤ). refusal_of (capture_checks a.capture.now a.reader.now z (length a.events.now))) same in
+    let bytes : c.new-source.result.capture.bytes.now ≡ a.capture.now = ap (λ (l : Legal). l.bytes.now) c.new-source.ensures in
+    let ran = subst (λ (b : List ℕ). Ran (characters_of b) 0 c.is_plus.result a.reader.now a.events.now (character_count (length b)) each.result.plus
+    each.result.reader each.new.events) bytes each.ensures in
+    let count : c.count.result ≡ character_count (length a.capture.now) = c.count.ensures.exactly ∙ ap (λ (b : List ℕ). character_count (length b)) bytes in
+    let read = is_read a.capture.now a.reader.now a.disparity.now a.events.now 0 given refl c.is_plus.result (c.is_plus.ensures ∙ ap is_plus same)
+    each.result.plus each.result.reader each.new.events ran c.disparity_of.result c.disparity_of.ensures in (
+      ap counted count ∙ ap read_beside read.0,
+      ap (λ (x : CaptureRead). x.reader) read.0,
+      ap (λ (x : CaptureRead). x.disparity) read.0,
+      read.1,
+    )

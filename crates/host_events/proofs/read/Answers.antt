@@ -1,50 +1,41 @@
 -- The refusals in their order; then the capture is read.
-use mathlib.Core.Path.{sym, ap, ◌∙◌}
-use lib.IntN.{ℤ}
-use lib.ListN.{length}
-use mir.Facts.{to_z-of_z}
-use Rattle.packet_rules.specs.declared.Reader.{Reader}
-use Rattle.events_rules.specs.Events.{not_read_capture, capture_read, events_left}
-use Rattle.host_calls.proofs.EventLaws.{bytes_illegal, bytes_no_reader, bytes_read}
+use mathlib.Core.Path.{refl, sym, ap, ◌∙◌}
+use Rattle.std.proofs.lemmas.Result.{err_from_is_err_and}
+use Rattle.refusal.specs.Order.{number_of, refusal_says}
+use Rattle.host_rules.specs.ReaderBytes.{reader_bytes}
+use Rattle.host_calls.specs.EventCalls.{ReadsCapture}
+use Rattle.host_calls.proofs.EventLaws.{capture_illegal, capture_stateless, capture_refused, capture_done}
 use Rattle.host_events.proofs.read.Goals as goal
 
 pub returns-then-not-is_legal : goal.returns-then-not-is_legal
 returns-then-not-is_legal c =
     let a = c.args in
-    let illegal = sym c.is_legal.ensures ∙ c.if-not-is_legal.true in
-    let x = bytes_illegal a.capture.now a.bytes a.disparity a.events.now illegal in
-    let d = to_z-of_z c.ranges.disparity in
-    let given = c.reader_in-given in (
-      c.not_read.ensures ∙ ap (λ (z : ℤ). not_read_capture given.result z 8) d
-          ∙ ap (λ (r : Reader). not_read_capture r a.disparity 8) given.ensures ∙ x.answers,
-      x.leaves,
-    )
+    let old : ReadsCapture = record { reader = a.bytes.now; disparity = a.disparity.now; events = a.events.now; count = a.count.now } in
+    rw (capture_illegal a.capture.now old (sym c.is_legal.ensures ∙ c.if-not-is_legal.true)) (refl, refl, refl, refl, refl)
 
-pub returns-then-not-is_reader : goal.returns-then-not-is_reader
-returns-then-not-is_reader c =
+pub returns-in_err-reader : goal.returns-in_err-reader
+returns-in_err-reader c =
     let a = c.args in
+    let old : ReadsCapture = record { reader = a.bytes.now; disparity = a.disparity.now; events = a.events.now; count = a.count.now } in
     let legal = sym c.is_legal.ensures ∙ c.if-not-is_legal.false in
-    let none = sym c.is_reader.ensures ∙ c.if-not-is_reader.true in
-    let x = bytes_no_reader a.capture.now a.bytes a.disparity a.events.now legal none in
-    let d = to_z-of_z c.ranges.disparity in
-    let given = c.reader_in-given in (
-      c.not_read-then-not-is_reader.ensures ∙ ap (λ (z : ℤ). not_read_capture given.result z 1) d
-          ∙ ap (λ (r : Reader). not_read_capture r a.disparity 1) given.ensures ∙ x.answers,
-      x.leaves,
-    )
+    let p = err_from_is_err_and c.from_residual.result c.from_residual.ensures.1 in
+    rw (capture_stateless a.capture.now old legal _ c.in_err-reader.ensures) (ap refusal_says p.1 ∙ ap number_of p.2, refl, refl, refl, refl)
+
+pub returns-in_err-count : goal.returns-in_err-count
+returns-in_err-count c =
+    let a = c.args in
+    let old : ReadsCapture = record { reader = a.bytes.now; disparity = a.disparity.now; events = a.events.now; count = a.count.now } in
+    let legal = sym c.is_legal.ensures ∙ c.if-not-is_legal.false in
+    let read = c.in_err-count.ensures in
+    let p = err_from_is_err_and c.from_residual-in_err-count.result c.from_residual-in_err-count.ensures.1 in
+    rw (capture_refused a.capture.now old legal _ c.in_ok-reader.ensures _ read.0)
+    (ap refusal_says p.1 ∙ ap number_of p.2, refl, read.2, read.3, refl)
 
 pub returns : goal.returns
 returns c =
     let a = c.args in
-    let legal = sym c.is_legal.ensures
-    ∙ c.if-not-is_legal.false in
-    let state = sym c.is_reader.ensures ∙ c.if-not-is_reader.false in
-    let x = bytes_read a.capture.now a.bytes a.disparity a.events.now legal state in
-    let d = to_z-of_z c.ranges.disparity in
-    let given = c.reader_in-given in
-    let read = c.read_capture.ensures in
-    let answer = read.0 ∙ ap (λ (z : ℤ). capture_read a.capture.now given.result z (length a.events.now)) d
-    ∙ ap (λ (r : Reader). capture_read a.capture.now r a.disparity (length a.events.now)) given.ensures in
-    let left = read.1 ∙ ap (λ (z : ℤ). events_left a.capture.now given.result z a.events.now) d
-    ∙ ap (λ (r : Reader). events_left a.capture.now r a.disparity a.events.now) given.ensures in
-    (answer ∙ x.answers, left ∙ x.leaves)
+    let old : ReadsCapture = record { reader = a.bytes.now; disparity = a.disparity.now; events = a.events.now; count = a.count.now } in
+    let legal = sym c.is_legal.ensures ∙ c.if-not-is_legal.false in
+    let read = c.in_ok-count.ensures in
+    rw (capture_done a.capture.now old legal _ c.in_ok-reader.ensures _ read.0)
+    (refl, c.reader_bytes.ensures ∙ ap reader_bytes read.1, read.2, read.3, refl)

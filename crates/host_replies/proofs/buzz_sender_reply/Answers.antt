@@ -1,21 +1,14 @@
--- A refusal leaves all as it stood; else the new state's bytes, and what the answer says.
-use mathlib.Core.Path.{refl, sym, ap, ◌∙◌}
+-- A refusal is answered with its number, and leaves all as it stood.
+use mathlib.Core.Path.{ap, ◌∙◌}
 use Rattle.retry_rules.specs.declared.Sender.{Sender}
 use Rattle.retry_rules.specs.Reply.{reply_of}
 use Rattle.host_rules.specs.Numbers.{mark_of}
-use Rattle.host_calls.proofs.SenderLaws.{reply_refused, reply_done}
+use Rattle.host_retry_rules.proofs.Called.{refused_refusal, refused_lent}
+use Rattle.host_calls.specs.SenderCalls.{hears}
 use Rattle.host_replies.proofs.buzz_sender_reply.Goals as goal
 
-pub returns-then-heard-ne0 : goal.returns-then-heard-ne0
-returns-then-heard-ne0 c =
-    let a = c.args in
-    let h = c.reply-heard.ensures
-    ∙ ap (λ (s : Sender). reply_of s (mark_of a.nack) a.number) c.sender_in-given.ensures in
-    rw (reply_refused a.nack a.number a.sender.now _ h c.if-heard-ne0.true) (refl, refl)
-
-pub returns : goal.returns
-returns c =
-    let a = c.args in
-    let h = c.reply-heard.ensures
-    ∙ ap (λ (s : Sender). reply_of s (mark_of a.nack) a.number) c.sender_in-given.ensures in
-    rw (reply_done a.nack a.number a.sender.now _ h c.if-heard-ne0.false) (sym c.if-heard-ne0.false, c.sender_bytes.ensures)
+pub returns-in-Err : goal.returns-in-Err
+unfolding hears
+returns-in-Err c =
+    let e = c.in-Err.ensures.0 ∙ ap (λ (s : Sender). (reply_of s (mark_of c.args.nack) c.args.number).refusal) c.sender_in-state.ensures in
+    (c.from.ensures ∙ refused_refusal _ _ _ c.in-Err.refusal e, refused_lent _ _ _ c.in-Err.refusal e)

@@ -1,24 +1,15 @@
--- A refusal leaves all as it stood; else the new state's bytes, and what the answer says.
-use mathlib.Core.Path.{refl, sym, ap, ◌∙◌}
+-- A refusal is answered with its number, and leaves all as it stood.
+use mathlib.Core.Path.{ap, ◌∙◌}
+use Rattle.retry_rules.specs.declared.Sender.{Sender}
+use Rattle.retry_rules.specs.Answers.{TickAnswer}
 use Rattle.retry_rules.specs.Tick.{tick_of}
-use Rattle.host_calls.specs.SenderCalls.{Ticks}
-use Rattle.host_calls.proofs.SenderLaws.{tick_refused, tick_done}
+use Rattle.host_retry_rules.proofs.Called.{refused_refusal, refused_lent}
+use Rattle.host_calls.specs.SenderCalls.{Ticks, ticks}
 use Rattle.host_replies.proofs.buzz_sender_tick.Goals as goal
 
-pub returns-then-ticked-ne0 : goal.returns-then-ticked-ne0
-returns-then-ticked-ne0 c =
-    let a = c.args in
-    let old : Ticks = record { sender = a.sender.now; fell = a.fell.now } in
-    let h = c.tick-ticked.ensures ∙ ap tick_of c.sender_in-given.ensures in
-    rw (tick_refused old _ h c.if-ticked-ne0.true) (refl, refl, refl)
-
-pub returns : goal.returns
-returns c =
-    let a = c.args in
-    let old : Ticks = record { sender = a.sender.now; fell = a.fell.now } in
-    let h = c.tick-ticked.ensures ∙ ap tick_of c.sender_in-given.ensures in
-    rw (tick_done old _ h c.if-ticked-ne0.false) (
-      sym c.if-ticked-ne0.false,
-      c.sender_bytes.ensures,
-      c.mark_number.ensures,
-    )
+pub returns-in-Err : goal.returns-in-Err
+unfolding ticks
+returns-in-Err c =
+    let e = ap (λ (a : TickAnswer). a.refusal) c.in-Err.ensures.0 ∙ ap (λ (s : Sender). (tick_of s).refusal) c.sender_in-state.ensures in
+    let kept = refused_lent _ _ _ c.in-Err.refusal e in
+    (c.from.ensures ∙ refused_refusal _ _ _ c.in-Err.refusal e, ap (λ (t : Ticks). t.sender) kept, ap (λ (t : Ticks). t.fell) kept)

@@ -6,8 +6,8 @@ use Rattle.host_retry_bytes.proofs.mask_of.Goals as goal
 pub returns : goal.returns
 unfolding mask_of
 returns c =
-    next c.mark_number-m0.ensures.0 (next
-    c.mark_number-m1.ensures.0 (next
-    c.mark_number-m2.ensures.0 (next c.mark_number-m3.ensures.0
-    (next c.mark_number-m4.ensures.0
-    (next c.mark_number-m5.ensures.0 (next c.mark_number-m6.ensures.0 (last c.mark_number-m7.ensures.0)))))))
+    next c.mark-m0.ensures.0 (next
+    c.mark-m1.ensures.0 (next
+    c.mark-m2.ensures.0 (next c.mark-m3.ensures.0
+    (next c.mark-m4.ensures.0
+    (next c.mark-m5.ensures.0 (next c.mark-m6.ensures.0 (last c.mark-m7.ensures.0)))))))

@@ -1,15 +1,12 @@
--- A refusal leaves all as it stood; else the new state's bytes, and what the answer says.
-use mathlib.Core.Path.{refl, sym}
-use Rattle.host_calls.proofs.SenderLaws.{begin_refused, begin_done}
+-- A refusal is answered with its number, and leaves all as it stood.
+use mathlib.Core.Path.{ap, ◌∙◌}
+use Rattle.retry_rules.specs.Answers.{Answered}
+use Rattle.host_retry_rules.proofs.Called.{refused_refusal, refused_lent}
+use Rattle.host_calls.specs.SenderCalls.{begins_sender}
 use Rattle.host_sender.proofs.buzz_sender_fresh.Goals as goal
 
-pub returns-then-made-ne0 : goal.returns-then-made-ne0
-returns-then-made-ne0 c =
-    let a = c.args in
-    rw (begin_refused a.columns a.size a.sender.now _ c.fresh_sender-made.ensures c.if-made-ne0.true) (refl, refl)
-
-pub returns : goal.returns
-returns c =
-    let a = c.args in
-    rw (begin_done a.columns a.size a.sender.now _ c.fresh_sender-made.ensures c.if-made-ne0.false)
-    (sym c.if-made-ne0.false, c.sender_bytes.ensures)
+pub returns-in-Err : goal.returns-in-Err
+unfolding begins_sender
+returns-in-Err c =
+    let e = ap (λ (a : Answered). a.refusal) c.in-Err.ensures in
+    (c.from.ensures ∙ refused_refusal _ _ _ c.in-Err.refusal e, refused_lent _ _ _ c.in-Err.refusal e)

@@ -1,20 +1,13 @@
--- A refusal leaves all as it stood; else the new state's bytes, and what the answer says.
-use mathlib.Core.Path.{refl, sym, ap, ◌∙◌}
+-- A refusal is answered with its number, and leaves all as it stood.
+use mathlib.Core.Path.{ap, ◌∙◌}
 use Rattle.retry_rules.specs.declared.Sender.{Sender}
 use Rattle.retry_rules.specs.Fresh.{reset_of}
-use Rattle.host_calls.proofs.SenderLaws.{reset_refused, reset_done}
+use Rattle.host_retry_rules.proofs.Called.{refused_refusal, refused_lent}
+use Rattle.host_calls.specs.SenderCalls.{resets}
 use Rattle.host_sender.proofs.buzz_sender_reset.Goals as goal
 
-pub returns-then-begun-ne0 : goal.returns-then-begun-ne0
-returns-then-begun-ne0 c =
-    let a = c.args in
-    let h = c.reset-begun.ensures
-    ∙ ap (λ (s : Sender). reset_of s a.columns a.size) c.sender_in-given.ensures in
-    rw (reset_refused a.columns a.size a.sender.now _ h c.if-begun-ne0.true) (refl, refl)
-
-pub returns : goal.returns
-returns c =
-    let a = c.args in
-    let h = c.reset-begun.ensures
-    ∙ ap (λ (s : Sender). reset_of s a.columns a.size) c.sender_in-given.ensures in
-    rw (reset_done a.columns a.size a.sender.now _ h c.if-begun-ne0.false) (sym c.if-begun-ne0.false, c.sender_bytes.ensures)
+pub returns-in-Err : goal.returns-in-Err
+unfolding resets
+returns-in-Err c =
+    let e = c.in-Err.ensures.0 ∙ ap (λ (s : Sender). (reset_of s c.args.columns c.args.size).refusal) c.sender_in-state.ensures in
+    (c.from.ensures ∙ refused_refusal _ _ _ c.in-Err.refusal e, refused_lent _ _ _ c.in-Err.refusal e)

@@ -1,52 +1,50 @@
 -- The block is taken, read and listed.
+use mathlib.Core.Path.{ap, ◌∙◌}
 use mathlib.Core.List.{[]}
-use Prim.Native.Nat.{◌-◌}
+use Prim.Native.Nat.{ℕ, ◌-◌}
 use native.Mathlib.Omega.{arith}
 use lib.ListN.{length, take, replicate}
 use mir.Facts.{to_z-of_z}
 use mir.Syntax.{w32}
-use Rattle.laws.proofs.Bools.{true_t}
 use Rattle.capture_rules.specs.Capture.{character_count}
-use Rattle.capture_rules.proofs.Packing.{legal_size}
+use Rattle.capture.proofs.Taken.{legal_short}
 use Rattle.listing_rules.proofs.Whole.{rule_events}
 use Rattle.listing_lines.proofs.Lines.{block_listed}
-use Rattle.listing_pieces.proofs.Places.{count_low}
-use Rattle.listing_pieces.proofs.Blocks.{taken_low, block_low, block_takes, never_refused, block_is}
+use Rattle.listing_pieces.proofs.Blocks.{taken_low, block_low, block_takes, held, is_read, block_is}
+use Rattle.listing_pieces.specs.Blocks.{block_length}
 use borrow.Author.Rules.{rules}
 use Rattle.listing_pieces.proofs.next_lines.Goals as goal
 
-pub overflow_mul-capture : goal.overflow_mul-capture
-overflow_mul-capture c = omega (arith, legal_size c.args.capture.now (true_t _ c.requires.0))
-
-pub returns-in-Read : goal.returns-in-Read
-returns-in-Read c =
-    let e = c.block_length-n.ensures in
-    let left = character_count (length c.args.capture.now) - c.args.p.place in
+pub unwrap-disparity-requires : goal.unwrap-disparity-requires
+unwrap-disparity-requires c =
+    let capture = c.args.capture in
+    let p = c.args.p in
     let n = c.block_length-n.result in
-    let taken = c.take_characters in
+    let size = c.block_length-n.ensures ∙ ap (λ (k : ℕ). block_length (k - p.place)) c.count.ensures in
+    let run = c.read_run in
+    is_read capture.bytes.now p capture.is_legal c.requires.0 c.requires.1 n size _ (replicate 64 0) run.new.results _ run.result (omega arith)
+    (held capture.bytes.now p capture.is_legal c.requires.0 c.requires.1 n size (replicate 64 0) c.take_characters.new.out _ (omega arith)
+    c.take_characters.ensures)
+    (to_z-of_z {w = w32} {z = p.disparity} (search rules)) run.ensures.0 run.ensures.1
+
+pub returns : goal.returns
+returns c =
+    let capture = c.args.capture in
+    let p = c.args.p in
+    let n = c.block_length-n.result in
+    let size = c.block_length-n.ensures ∙ ap (λ (k : ℕ). block_length (k - p.place)) c.count.ensures in
+    let low = block_low (character_count (length capture.bytes.now) - p.place) in
     let run = c.read_run in
     let put = c.put_results-q in
-    let events = rule_events [] c.args.p c.requires.1 in
-    let few = count_low c.args.capture.now c.requires.0 in
-    block_is c.args.capture.now c.args.p c.requires.0 c.requires.1 c.requires.2 n e taken.new.out
-    (replicate 64 0) (replicate 64 0) run.new.results _ run.result (omega arith) taken.ensures
-    (to_z-of_z {w = w32} {z = c.args.p.disparity}
-    (search rules))
-    run.ensures.0 run.ensures.1 c.in-Read.disparity _ c.in-Read.is
-    (to_z-of_z {w = w32} {z = c.in-Read.disparity} (search rules))
+    let events = rule_events [] p c.requires.0 in
+    let few = legal_short capture in
+    block_is capture.bytes.now p capture.is_legal c.requires.0 c.requires.1 n size _ (replicate 64 0) run.new.results _ run.result (omega arith)
+    (held capture.bytes.now p capture.is_legal c.requires.0 c.requires.1 n size (replicate 64 0) c.take_characters.new.out _ (omega arith)
+    c.take_characters.ensures)
+    (to_z-of_z {w = w32} {z = p.disparity} (search rules)) run.ensures.0 run.ensures.1 c.unwrap-disparity.result _ c.unwrap-disparity.ensures
+    (to_z-of_z {w = w32} {z = c.unwrap-disparity.result} (search rules))
     c.args.out.now put.new.out put.result
-    (block_listed (take n run.new.results) c.args.p c.args.out.now put.new.out put.result
-    (block_takes (take n run.new.results) c.args.p (taken_low n run.new.results 64 (omega (arith, e, block_low left)))
-    (omega (arith, c.requires.2)) (omega (arith, c.requires.2)))
+    (block_listed (take n run.new.results) p c.args.out.now put.new.out put.result
+    (block_takes (take n run.new.results) p (taken_low n run.new.results 64 (omega (arith, size, low)))
+    (omega (arith, c.requires.1)) (omega (arith, c.requires.1)))
     put.ensures)
-
-pub returns-in-Refused : goal.returns-in-Refused
-returns-in-Refused c =
-    let size = c.block_length-n in
-    let taken = c.take_characters in
-    let run = c.read_run in
-    absurd
-    (never_refused c.args.capture.now c.args.p c.requires.0 c.requires.1 c.requires.2 size.result size.ensures taken.new.out
-    (replicate 64 0) (replicate 64 0) run.new.results _ run.result (omega arith) taken.ensures
-    (to_z-of_z {w = w32} {z = c.args.p.disparity} (search rules))
-    run.ensures.0 run.ensures.1 c.in-Refused.r c.in-Refused.is)

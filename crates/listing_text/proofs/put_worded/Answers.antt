@@ -1,20 +1,8 @@
 -- Two texts, one after another, where they have room.
 use mathlib.Core.Path.{sym, ◌∙◌}
-use Prim.Native.Nat.{◌+◌}
-use native.Mathlib.Omega.{arith}
-use lib.ListN.{length}
-use borrow.Author.Tests.{leb-true}
 use Rattle.listing_text.specs.Writing.{worded_line, worded_room}
-use Rattle.listing_text.proofs.Decimal.{decimal_short}
 use Rattle.listing_text.proofs.Written.{wrote_more, put_done}
 use Rattle.listing_text.proofs.put_worded.Goals as goal
-
-pub put-requires : goal.put-requires
-put-requires c =
-    let a = c.args in
-    let h = leb-true (a.at + (length a.words.now + 5)) 2048 (sym c.has_room.ensures
-    ∙ c.if-not-has_room.false) in
-    omega (arith, h, c.put_number-a.ensures.size, decimal_short a.place)
 
 pub returns : goal.returns
 returns c =

@@ -1,15 +1,18 @@
 -- By the test of the rule; then the code's way through the step is what the rules say.
 use mathlib.Core.Path.{sym, ap, ◌∙◌}
-use Rattle.packet_rules.specs.Answers.{step_says}
-use Rattle.packet_reader.proofs.Agree.{agree, ill_formed}
+use Rattle.packet_rules.specs.Answers.{Answer, answer_says}
+use Rattle.packet_reader.proofs.Agree.{says_step, leaves_step, ill_formed}
 use Rattle.packet_reader.proofs.step.Goals as goal
 
-pub returns-then-is_well_formed : goal.returns-then-is_well_formed
-returns-then-is_well_formed c =
-    let a = c.args in
-    ap step_says c.advance.ensures ∙ agree a.r a.res (sym c.is_well_formed.ensures ∙ c.if-is_well_formed.true)
+pub returns-then-not-is_well_formed : goal.returns-then-not-is_well_formed
+returns-then-not-is_well_formed c =
+    let e = ill_formed c.args.reader.now c.args.res (sym c.is_well_formed.ensures ∙ c.if-not-is_well_formed.true) in
+    (ap (λ (a : Answer). a.said) e, ap (λ (a : Answer). a.reader) e)
 
-pub returns-else-is_well_formed : goal.returns-else-is_well_formed
-returns-else-is_well_formed c =
-    let a = c.args in
-    ap step_says c.refused.ensures ∙ ill_formed a.r a.res (sym c.is_well_formed.ensures ∙ c.if-is_well_formed.false)
+pub returns : goal.returns
+returns c =
+    let r = c.args.reader.now in
+    let ok = sym c.is_well_formed.ensures ∙ c.if-not-is_well_formed.false in (
+      ap answer_says c.advance.ensures.0 ∙ says_step r c.args.res ok,
+      c.advance.ensures.1 ∙ leaves_step r c.args.res ok,
+    )

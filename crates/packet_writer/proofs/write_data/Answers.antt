@@ -1,40 +1,41 @@
 -- A refusal by its number; else the packet, and all of it.
-use mathlib.Core.Path.{◌≡◌, ap, sym, ◌∙◌}
-use Prim.Native.Nat.{◌%◌}
+use mathlib.Core.Path.{ap, sym, ◌∙◌}
 use native.Mathlib.Omega.{arith}
-use borrow.Author.Rules.{rules}
 use lib.IntN.{ℤ}
 use lib.ListN.{length}
 use mir.Syntax.{w32}
 use mir.ValLaws.{to_z-of_z}
 use Rattle.laws.proofs.Bools.{true_t}
-use Rattle.refusal.specs.Order.{refusal_of}
+use Rattle.std.proofs.lemmas.Result.{err_from_is_err_and}
+use Rattle.refusal.specs.declared.Refusal.{Refusal}
+use Rattle.refusal.specs.Order.{number_of, refusal_of}
 use Rattle.symbol.specs.Symbols.{is_twelve}
 use Rattle.character_rules.specs.Disparity.{is_disparity}
-use Rattle.packet_rules.specs.Packets.{in_data, symbols_of, packet_checks, wrote}
+use Rattle.packet_rules.specs.Packets.{in_data, symbols_of, packet_checks, not_wrote, written_says}
 use Rattle.packet_writer.proofs.Passed.{data_passed}
 use Rattle.packet_writer.proofs.Outcome.{refused_with, written_all}
 use Rattle.packet_writer.proofs.write_data.Goals as goal
 
-pub returns-then-refused-ne0 : goal.returns-then-refused-ne0
-returns-then-refused-ne0 c =
+pub returns-in_err-may_write_data : goal.returns-in_err-may_write_data
+returns-in_err-may_write_data c =
     let a = c.args in
     let d = a.disparity in
     let m = in_data a.channel a.bytes.now a.bad in
     let z = to_z-of_z w32 d c.ranges.disparity in
-    let e = c.data_refusal-refused.ensures ∙ ap (λ (x : ℤ). refusal_of (packet_checks 0 m x (length a.out.now))) z in
-    refused_with 0 m d a.out.now _ (sym e) c.if-refused-ne0.true
+    let e = c.in_err-may_write_data.ensures ∙ ap (λ (x : ℤ). refusal_of (packet_checks 0 m x (length a.out.now))) z in
+    let w = refused_with 0 m d a.out.now c.in_err-may_write_data.field-0.0 (sym e) in
+    let p = err_from_is_err_and c.from_residual.result c.from_residual.ensures.1 in
+    (ap written_says p.1 ∙ ap (λ (x : Refusal). not_wrote (number_of x)) p.2 ∙ w.0, w.1)
 
-pub put_packet-q-requires : goal.put_packet-q-requires
+pub put_packet-requires : goal.put_packet-requires
 unfolding is_twelve
-put_packet-q-requires c =
+put_packet-requires c =
     let a = c.args in
     let d = a.disparity in
     let m = in_data a.channel a.bytes.now a.bad in
     let z = to_z-of_z w32 d c.ranges.disparity in
-    let e = c.data_refusal-refused.ensures ∙ ap (λ (x : ℤ). refusal_of (packet_checks 0 m x (length a.out.now))) z in
-    let no : refusal_of (packet_checks 0 m d (length a.out.now)) ≡ 0 = sym e ∙ c.if-refused-ne0.false in
-    let ok = data_passed a.channel a.bytes.now a.bad d (length a.out.now) no in
+    let e = c.in_ok-may_write_data.ensures ∙ ap (λ (x : ℤ). refusal_of (packet_checks 0 m x (length a.out.now))) z in
+    let ok = data_passed a.channel a.bytes.now a.bad d (length a.out.now) (sym e) in
     (omega (arith, ok.2), tt, true_t _ (ap is_disparity z ∙ ok.0))
 
 pub returns : goal.returns
@@ -44,10 +45,5 @@ returns c =
     let d = a.disparity in
     let m = in_data a.channel a.bytes.now a.bad in
     let z = to_z-of_z w32 d c.ranges.disparity in
-    let e = c.data_refusal-refused.ensures ∙ ap (λ (x : ℤ). refusal_of (packet_checks 0 m x (length a.out.now))) z in
-    let no : refusal_of (packet_checks 0 m d (length a.out.now)) ≡ 0 = sym e ∙ c.if-refused-ne0.false in
-    let ok = data_passed a.channel a.bytes.now a.bad d (length a.out.now) no in
-    let h : a.channel % 256 ≡ a.channel = omega (arith, ok.1) in
-    let put = c.put_packet-q in
-    let w = written_all 0 m d a.out.now no (rw (h, z) at put.ensures) in
-    (ap (wrote put.result.at) (to_z-of_z w32 put.result.disparity (search rules)) ∙ w.0, w.1)
+    let e = c.in_ok-may_write_data.ensures ∙ ap (λ (x : ℤ). refusal_of (packet_checks 0 m x (length a.out.now))) z in
+    written_all 0 m d a.out.now c.put_packet.result (sym e) (rw z at c.put_packet.ensures)

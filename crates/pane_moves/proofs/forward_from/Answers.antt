@@ -1,26 +1,24 @@
 -- Each refusal in its order, then the move and the end.
-use mathlib.Core.Path.{sym, ◌∙◌}
+use mathlib.Core.Path.{sym, ap, ◌∙◌}
 use native.Mathlib.Omega.{arith}
-use Rattle.laws.proofs.Bools.{true_t}
-use Rattle.capture_rules.proofs.Packing.{legal_size}
+use Rattle.capture.proofs.Taken.{taken_is_legal, taken_count, refused_illegal, refused_8}
+use Rattle.capture_rules.specs.Panes.{move_says, stayed}
+use Rattle.capture_rules.proofs.Answers.{handed_back}
 use Rattle.capture_rules.proofs.Panes.{forward_illegal, forward_outside, forward_moves, forward_at_end}
 use Rattle.pane_moves.proofs.forward_from.Goals as goal
 
-pub returns-then-not-is_legal : goal.returns-then-not-is_legal
-returns-then-not-is_legal c = c.stay.ensures ∙ sym (forward_illegal _ _ (sym c.is_legal.ensures ∙ c.if-not-is_legal.true))
+pub returns-in_err-new : goal.returns-in_err-new
+returns-in_err-new c = let e = c.in_err-new.ensures in
+    ap (move_says c.args.place) (handed_back _ _ c.from_residual.ensures.1) ∙ ap (stayed c.args.place) (refused_8 _ _ e) ∙ sym (forward_illegal _ _ (refused_illegal _ _ e))
 
-pub overflow_mul-n : goal.overflow_mul-n
-overflow_mul-n c = let h = legal_size _ (true_t _ (sym c.is_legal.ensures ∙ c.if-not-is_legal.false)) in omega arith
+pub returns-then-count-place : goal.returns-then-count-place
+returns-then-count-place c = let taken = c.in_ok-new.field-0 in let e = c.in_ok-new.ensures in
+    let n = taken_count _ taken e in sym (forward_outside _ _ (taken_is_legal _ taken e) (omega arith))
 
-pub returns-then-n-place : goal.returns-then-n-place
-returns-then-n-place c = c.stay-then-n-place.ensures
-    ∙ sym (forward_outside _ _ (sym c.is_legal.ensures ∙ c.if-not-is_legal.false) c.if-n-place.true)
+pub returns-then-place-count : goal.returns-then-place-count
+returns-then-place-count c = let taken = c.in_ok-new.field-0 in let e = c.in_ok-new.ensures in
+    let n = taken_count _ taken e in sym (forward_moves _ _ (taken_is_legal _ taken e) (omega arith) (omega arith))
 
-pub returns-then-place-n : goal.returns-then-place-n
-returns-then-place-n c = sym (forward_moves _ _ (sym c.is_legal.ensures ∙ c.if-not-is_legal.false) c.if-n-place.false
-    c.if-place-n.true)
-
-pub returns : goal.returns
-returns c = c.stay-2.ensures
-    ∙ sym (forward_at_end _ _ (sym c.is_legal.ensures ∙ c.if-not-is_legal.false)
-    c.if-n-place.false c.if-place-n.false)
+pub returns-else-place-count : goal.returns-else-place-count
+returns-else-place-count c = let taken = c.in_ok-new.field-0 in let e = c.in_ok-new.ensures in
+    let n = taken_count _ taken e in sym (forward_at_end _ _ (taken_is_legal _ taken e) (omega arith) (omega arith))

@@ -1,19 +1,18 @@
 -- Each refusal in its order, and the place.
 use mathlib.Core.Path.{sym, ◌∙◌}
 use native.Mathlib.Omega.{arith}
-use Rattle.laws.proofs.Bools.{true_t}
-use Rattle.capture_rules.proofs.Packing.{legal_size}
+use Rattle.capture.proofs.Taken.{taken_is_legal, taken_count, refused_illegal, says_8}
 use Rattle.capture_rules.proofs.Panes.{place_illegal, place_outside, place_inside}
 use Rattle.pane_moves.proofs.place_in.Goals as goal
 
-pub returns-then-not-is_legal : goal.returns-then-not-is_legal
-returns-then-not-is_legal c = sym (place_illegal _ _ (sym c.is_legal.ensures ∙ c.if-not-is_legal.true))
+pub returns-in_err-new : goal.returns-in_err-new
+returns-in_err-new c = let e = c.in_err-new.ensures in
+    says_8 _ _ e _ c.from_residual.ensures.1 ∙ sym (place_illegal _ _ (refused_illegal _ _ e))
 
-pub overflow_mul-capture : goal.overflow_mul-capture
-overflow_mul-capture c = let h = legal_size _ (true_t _ (sym c.is_legal.ensures ∙ c.if-not-is_legal.false)) in omega arith
+pub returns-then-place-count : goal.returns-then-place-count
+returns-then-place-count c = let taken = c.in_ok-new.field-0 in let e = c.in_ok-new.ensures in
+    let n = taken_count _ taken e in sym (place_inside _ _ (taken_is_legal _ taken e) (omega arith))
 
-pub returns-then-place-capture : goal.returns-then-place-capture
-returns-then-place-capture c = sym (place_inside _ _ (sym c.is_legal.ensures ∙ c.if-not-is_legal.false) c.if-place-capture.true)
-
-pub returns : goal.returns
-returns c = sym (place_outside _ _ (sym c.is_legal.ensures ∙ c.if-not-is_legal.false) c.if-place-capture.false)
+pub returns-else-place-count : goal.returns-else-place-count
+returns-else-place-count c = let taken = c.in_ok-new.field-0 in let e = c.in_ok-new.ensures in
+    let n = taken_count _ taken e in sym (place_outside _ _ (taken_is_legal _ taken e) (omega arith))

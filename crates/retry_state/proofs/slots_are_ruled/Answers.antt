@@ -1,26 +1,17 @@
--- After i turns the first i stored segments have passed; the first that fails ends it.
-use mathlib.Core.Path.{sym, ap, ◌∙◌}
-use Prim.Native.Nat.{ℕ}
-use native.Mathlib.Nat.{le_antisymm}
-use Rattle.retry_rules.specs.Numbers.{every_below}
-use Rattle.retry_rules.specs.States.{slot_rule, slots_rule}
-use Rattle.retry_rules.proofs.StoredSlots.{every_fails}
-use Rattle.retry_state.proofs.slots_are_ruled.Invariants.{passes}
+-- `all` answers as the rule does, at the numbers below how many are stored.
+use Rattle.std.proofs.Common.{ℕ, Bool, refl, rules, tests, ◌≡◌, ◌-◌, ◌∙◌, ap, arith}
+use Rattle.std.proofs.lemmas.Iterator.{YieldsList-from_range}
+use Rattle.std.proofs.lemmas.Iterator.Search.{all_from_yields_List}
+use Rattle.std.specs.List.{list_all, range_with_len}
+use Rattle.retry_rules.specs.States.{slots_rule, slot_rule, slot_of}
+use Rattle.retry_state.proofs.Every.{all_below}
 use Rattle.retry_state.proofs.slots_are_ruled.Goals as goal
-
-pub returns-then-not-slot_is_ruled : goal.returns-then-not-slot_is_ruled
-unfolding slots_rule slot_rule
-returns-then-not-slot_is_ruled c =
-    let k = c.args.sender.counters in
-    let slots = c.args.sender.slots in
-    let i = c.loop-i.i in
-    sym (every_fails k.stored (passes k slots.lengths slots.channels) i c.loop-i-test.true
-    (sym c.slot_is_ruled.ensures ∙ c.if-not-slot_is_ruled.true))
 
 pub returns : goal.returns
 unfolding slots_rule slot_rule
 returns c =
-    let k = c.args.sender.counters in
-    let slots = c.args.sender.slots in
-    let h = c.loop-i.invariant in
-    sym (ap (λ (n : ℕ). every_below n (passes k slots.lengths slots.channels)) (le_antisymm c.loop-i-test.false h.0) ∙ h.1)
+    let s = c.args.sender in
+    let test : ℕ → Bool = λ i. slot_rule s (slot_of s.counters i) in
+    let count : c.from.result - 0 ≡ s.counters.stored = omega (arith, c.from.ensures) in
+    all_from_yields_List test _ _ c.all.result c.all.ensures.ran (YieldsList-from_range 0 _ _ refl refl) (λ x b q k. search (rules, tests))
+    ∙ ap (λ n. list_all test (range_with_len 0 n)) count ∙ all_below test s.counters.stored

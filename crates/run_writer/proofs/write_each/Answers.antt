@@ -21,7 +21,7 @@ loop-i-preserved c =
     let l = c.loop-i in
     let bs = c.args.bytes.now in
     let e = c.look_up-found.ensures in
-    let h : get_or bs l.i 0 < 256 = omega (arith, c.shared_slice_known-in-loop-i-1.given l.i) in
+    let h : get_or bs l.i 0 < 256 = search rules in
     let t = disparity_is (eqb l.p 1) in
     let d = disparity_of (eqb l.p 1) in (
       one_more bs (disparity_of (eqb c.args.from 1)) c.args.out.now l.i l.out d _ _ l.invariant.0 (search rules) c.requires.1

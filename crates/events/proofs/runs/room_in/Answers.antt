@@ -3,13 +3,12 @@ use native.Mathlib.Omega.{arith}
 use Rattle.events_rules.proofs.Feeding.{takes_data, takes_priority}
 use Rattle.events.proofs.runs.room_in.Goals as goal
 
-pub returns-then-begun : goal.returns-then-begun
-returns-then-begun c = let a = c.args in
-    takes_data a.size a.packet a.priority a.phase a.most _ _ _ c.in-InData.is c.if-begun.true
-    c.in-NoPriority.is c.in-Free.is c.requires
+pub returns-in-Free-Some-default : goal.returns-in-Free-Some-default
+returns-in-Free-Some-default c = let r = c.args.r in
+    let at = c.in-Free-Some-default in
+    takes_priority r.size r.packet r.priority r.phase c.args.most _ _ _ _ at.is-1 at.is-0 (omega arith) (omega arith) (omega arith)
 
-pub returns-else-size-count : goal.returns-else-size-count
-returns-else-size-count c = let a = c.args in
-    let within = c.lesser.ensures in
-    takes_priority a.size a.packet a.priority a.phase a.most _ _ _ _ c.in-InPriority.is
-    c.in-Free.is within.0 (omega arith) (omega arith)
+pub returns-in-Free-None-Some : goal.returns-in-Free-None-Some
+returns-in-Free-None-Some c = let r = c.args.r in
+    let at = c.in-Free-None-Some in
+    takes_data r.size r.packet r.priority r.phase c.args.most _ _ _ at.is-2 c.if-outer.true at.is-1 at.is-0 c.requires
