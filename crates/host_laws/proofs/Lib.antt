@@ -1,3 +1,4 @@
 pub mod Told
 pub mod Stepped
 pub mod SenderSame
+pub mod RetryTold

@@ -1,2 +1,2 @@
-// What the host's encodings say beyond one call. There is no code here.
+// What the host's encodings, and the answers that stand behind them, say beyond one call: that no two mean the same. There is no code here.
 #![tactic(auto)]
