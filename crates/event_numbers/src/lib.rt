@@ -2,11 +2,9 @@
 #![tactic(auto)]
 
 ghost use Rattle.std.specs.Prelude.{◌≡◌, ◌+◌, ◌*◌, ◌<◌};
-ghost use Rattle.packet_rules.specs.Answers.{answer_says};
-ghost use Rattle.events_rules.specs.Numbers.{mark_number, packed_event};
+ghost use Rattle.events_rules.specs.Numbers.{mark_number, packed_answer};
 
 use packet_rules::Event;
-use refusal::Refusal;
 
 fn mark_number(mark: bool) -> u8
     ensures { result ≡ mark_number mark }
@@ -22,17 +20,17 @@ fn number_of(event: u32, segment: u8, value: u8) -> u32
     event * 65536 + u32::from(segment) * 256 + u32::from(value)
 }
 
-// The number of what a step answers; 0 for a refusal, as for nothing.
+// The number of what a step answers; 0 for a refusal, whatever refused it, as for nothing.
 #[tactic(auto, unfolding(events_rules::specs::Numbers::packed_event))]
-pub fn event_number(said: Result<Event, Refusal>) -> u32
-    ensures { result ≡ packed_event (answer_says said) }
+pub fn event_number<E: Drop>(said: Result<Event, E>) -> u32
+    ensures { result ≡ packed_answer said }
 {
     let Ok(event) = said else {
         return 0;
     };
     match event {
         Event::Nothing => 0,
-        Event::Violation(violation) => number_of(1, 0, violation.number()),
+        Event::Violation(n) => number_of(1, 0, n),
         Event::StartData(channel) => number_of(2, 0, channel),
         Event::StartPriority { channel, segment } => number_of(3, segment, channel),
         Event::Byte(b) => number_of(4, 0, b),

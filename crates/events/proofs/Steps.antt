@@ -7,6 +7,7 @@ use native.Mathlib.Omega.{arith}
 use lib.Dec.{leb}
 use lib.ListN.{length, get_or, set}
 use Rattle.std.specs.Prelude.{Ok}
+use Rattle.refusal.specs.declared.Refusal.{Refusal}
 use Rattle.laws.proofs.Groups.{get_or_below}
 use Rattle.character_rules.specs.declared.Decoded.{Decoded}
 use Rattle.character_rules.specs.Answers.{decoded_says}
@@ -60,7 +61,7 @@ module _ (s : Source) (from : Place) (old : List ℕ) (h : from.at < places_in s
       let l = low in
       let long = characters_length s.capture.bytes.now in
       let shown = ed ∙ ap unpacked is ∙ unpacked_reading c (disparity_of from.plus) (omega arith) (disparity_is from.plus) in
-      let said = says_step from.reader (Ok decoded) from.rule ∙ ap (λ (a : Answer). a.said) (ap (step_of from.reader) shown) in
-      let left = leaves_step from.reader (Ok decoded) from.rule ∙ ap (λ (a : Answer). a.reader) (ap (step_of from.reader) shown) in
+      let said = says_step {E = Refusal} from.reader (Ok decoded) from.rule ∙ ap (λ (a : Answer). a.said) (ap (step_of from.reader) shown) in
+      let left = leaves_step {E = Refusal} from.reader (Ok decoded) from.rule ∙ ap (λ (a : Answer). a.reader) (ap (step_of from.reader) shown) in
       ran_one (characters_in s) from.at from.plus from.reader old result number after (omega arith) low (omega arith) from.rule is
       (en ∙ ap packed_event said) (ea ∙ left)

@@ -6,6 +6,7 @@ mod runs;
 mod source;
 
 ghost use Rattle.std.specs.Prelude.{◌≡◌, true, ◌+◌, ◌≤◌, ◌<◌, length};
+ghost use Rattle.capture_rules.specs.Capture.{character_count, characters_of};
 ghost use Rattle.packet_rules.specs.State.{well_formed};
 ghost use Rattle.events_rules.specs.Answers.{read_says, read_beside};
 ghost use Rattle.events_rules.specs.Events.{capture_read, events_left};
@@ -29,7 +30,10 @@ fn read_one(source: &Source, from: Place, events: &mut [u32]) -> Place
 {
     let result = source.result_at(from.at, from.plus);
     let mut reader = from.reader;
-    let answer = packet_reader::advance(&mut reader, Ok(character_reader::unpack_result(result)));
+    let answer = packet_reader::advance::<Refusal>(
+        &mut reader,
+        Ok(character_reader::unpack_result(result)),
+    );
     events[from.at] = event_numbers::event_number(answer);
     Place {
         at: from.at + 1,
@@ -70,6 +74,22 @@ fn read_each(source: &Source, plus: bool, reader: Reader, events: &mut [u32]) ->
     p
 }
 
+// All characters of a legal capture. The tables are taken here and not beside the checks, so that a refused capture does not pay for them.
+fn read_all(capture: Legal, plus: bool, reader: Reader, events: &mut [u32]) -> Place
+    requires { (character_count (length capture.bytes.now) ≤ length events.old) × (well_formed reader ≡ true) }
+    ensures { Ran (characters_of capture.entry.bytes.now) 0 plus reader
+        events.old (character_count (length capture.entry.bytes.now)) result.plus result.reader events.new }
+{
+    let results = character_reader::Table::new();
+    let registers = crc::table::Table::new();
+    let source = Source {
+        capture,
+        results: &results,
+        registers: &registers,
+    };
+    read_each(&source, plus, reader, events)
+}
+
 // A capture read from a reader's state and a disparity, which go on to those after it: an event for each character into the front of `events`,
 // and how many they are; or refusal 8, 1 or 6.
 pub fn read_capture(
@@ -85,9 +105,9 @@ pub fn read_capture(
         × (events.new ≡ events_left capture.now reader.old disparity.old events.old) }
 {
     event_checks::may_read(capture, *reader, *disparity, events.len())?;
-    let source = Source::new(Legal { bytes: capture });
-    let p = read_each(&source, is_plus(*disparity), *reader, events);
+    let legal = Legal { bytes: capture };
+    let p = read_all(legal, is_plus(*disparity), *reader, events);
     *reader = p.reader;
     *disparity = disparity_of(p.plus);
-    Ok(source.count())
+    Ok(legal.count())
 }

@@ -21,21 +21,12 @@ fn character_in(bytes: &[u8], i: usize) -> u16
 #[derive(Drop)]
 pub(crate) struct Source<'a> {
     pub(crate) capture: Legal<'a>,
-    results: character_reader::Table,
-    registers: crc::table::Table,
+    // Lent, since a table that is moved is copied.
+    pub(crate) results: &'a character_reader::Table,
+    pub(crate) registers: &'a crc::table::Table,
 }
 
 impl<'a> Source<'a> {
-    pub(crate) fn new(capture: Legal<'a>) -> Source<'a>
-        ensures { result.capture ≡ capture.entry }
-    {
-        Source {
-            capture,
-            results: character_reader::Table::new(),
-            registers: crc::table::Table::new(),
-        }
-    }
-
     // How many characters it has.
     #[tactic(auto, using(capture::proofs::Taken::legal_short))]
     pub(crate) fn count(&self) -> usize

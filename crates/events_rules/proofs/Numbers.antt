@@ -5,36 +5,43 @@ use mathlib.Core.Path.{◌≡◌, refl, sym, ap, ◌∙◌}
 use mathlib.Core.Bool.{Bool, true, false, cond}
 use native.Mathlib.Omega.{arith}
 use lib.Dec.{eqb}
+use Rattle.std.specs.Prelude.{Result, Ok, Err}
+use Rattle.refusal.specs.declared.Refusal.{Refusal}
+use Rattle.refusal.specs.Order.{number_of}
 use Rattle.packet_rules.specs.declared.Event.{Event}
 use Rattle.packet_rules.specs.declared.Event.TheVariants.{Nothing, StartData, StartPriority, Byte, End, Lmp, Violation as Violates}
 use Rattle.packet_rules.specs.declared.Violation.{Violation}
 use Rattle.packet_rules.specs.declared.Violation.TheVariants.{Invalid, WrongDisparity, Unsupported, OutOfPlace, Channel, Crc, LmpCheck, NoByte, Outside, TooLong}
-use Rattle.packet_rules.specs.Answers.{event_says}
-use Rattle.events_rules.specs.Numbers.{packed_event}
+use Rattle.packet_rules.specs.Answers.{violation_number, refused, event_says, answer_says}
+use Rattle.events_rules.specs.Numbers.{packed_event, packed_answer}
 
 -- an event whose numbers are bytes
 pub data Told : Event → Type 0 where
   nothing : Told Nothing
-  violation : (v : Violation) → Told (Violates v)
+  violation : (n : ℕ) → n < 256 → Told (Violates n)
   start_data : (channel : ℕ) → channel < 256 → Told (StartData channel)
   start_priority : (channel segment : ℕ) → channel < 256 → segment < 256 → Told (StartPriority channel segment)
   byte : (b : ℕ) → b < 256 → Told (Byte b)
   end : (bad : Bool) → Told (End bad)
   lmp : (nack : Bool) (number : ℕ) → number < 256 → Told (Lmp nack number)
 
--- the violation of a number: the last for every other
-abbrev violation_of : ℕ → Violation
-violation_of n =
-    cond (eqb n 1) Invalid
-    (cond (eqb n 2) WrongDisparity
-    (cond (eqb n 3) Unsupported
-    (cond (eqb n 4) OutOfPlace
-    (cond (eqb n 5) Channel (cond (eqb n 6) Crc (cond (eqb n 7) LmpCheck (cond (eqb n 8) NoByte (cond (eqb n 9) Outside TooLong))))))))
+-- the ten are bytes
+pub named : (v : Violation) → Told (Violates (violation_number v))
+named Invalid = violation 1 (omega arith)
+named WrongDisparity = violation 2 (omega arith)
+named Unsupported = violation 3 (omega arith)
+named OutOfPlace = violation 4 (omega arith)
+named Channel = violation 5 (omega arith)
+named Crc = violation 6 (omega arith)
+named LmpCheck = violation 7 (omega arith)
+named NoByte = violation 8 (omega arith)
+named Outside = violation 9 (omega arith)
+named TooLong = violation 10 (omega arith)
 
 -- the event of a number, a segment number and a value
 abbrev event_of : ℕ → ℕ → ℕ → Event
 event_of event segment value =
-    cond (eqb event 1) (Violates (violation_of value))
+    cond (eqb event 1) (Violates value)
     (cond (eqb event 2) (StartData value)
     (cond (eqb event 3) (StartPriority value segment)
     (cond (eqb event 4) (Byte value)
@@ -54,16 +61,7 @@ apart event segment value g h =
 pub event_back : (e : Event) → Told e → unpacked_event (packed_event (event_says e)) ≡ e
 unfolding packed_event
 event_back e nothing = refl
-event_back e (violation Invalid) = refl
-event_back e (violation WrongDisparity) = refl
-event_back e (violation Unsupported) = refl
-event_back e (violation OutOfPlace) = refl
-event_back e (violation Channel) = refl
-event_back e (violation Crc) = refl
-event_back e (violation LmpCheck) = refl
-event_back e (violation NoByte) = refl
-event_back e (violation Outside) = refl
-event_back e (violation TooLong) = refl
+event_back e (violation n h) = apart 1 0 n (omega arith) h
 event_back e (start_data c h) = apart 2 0 c (omega arith) h
 event_back e (start_priority c s h g) = apart 3 s c g h
 event_back e (byte b h) = apart 4 0 b (omega arith) h
@@ -75,3 +73,12 @@ event_back e (lmp false n h) = apart 6 n 0 h (omega arith)
 -- two events with one number are one
 pub one_event : (e f : Event) → Told e → Told f → packed_event (event_says e) ≡ packed_event (event_says f) → e ≡ f
 one_event e f a b h = sym (event_back e a) ∙ ap unpacked_event h ∙ event_back f b
+
+-- a refusal is packed as nothing is, under any number; so an answer is packed as what it says
+pub packed_refused : (n : ℕ) → packed_event (refused n) ≡ 0
+unfolding packed_event
+packed_refused n = refl
+
+pub packed_says : (a : Result Event Refusal) → packed_answer a ≡ packed_event (answer_says a)
+packed_says (Ok e) = refl
+packed_says (Err r) = sym (packed_refused (number_of r))

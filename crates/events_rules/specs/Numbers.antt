@@ -1,7 +1,8 @@
 -- An event in numbers: its own number, its value, its segment number; and the three as one.
-use Rattle.std.specs.Prelude.{ℕ, ◌+◌, ◌*◌, Bool, true, false, cond}
+use Rattle.std.specs.Prelude.{ℕ, ◌+◌, ◌*◌, Bool, true, false, cond, Result, Ok, Err}
 use Rattle.std.proofs.Math.Option.{Option, none, some}
-use Rattle.packet_rules.specs.Answers.{Start, Reply, Said}
+use Rattle.packet_rules.specs.declared.Event.{Event}
+use Rattle.packet_rules.specs.Answers.{Start, Reply, Said, event_says}
 
 -- what is there, or else another
 abbrev pub or_else : Option ℕ → ℕ → ℕ
@@ -55,3 +56,8 @@ segment_in s = or_else (segment_of s.start) (or_else (number_in s.lmp) 0)
 -- one number: 65,536 times the event's number, 256 times the segment number, and the value
 unfoldable pub packed_event : Said → ℕ
 packed_event s = 65536 * event_in s + 256 * segment_in s + value_in s
+
+-- of a step that may be refused: 0 for a refusal, whatever refused it, as for nothing
+abbrev pub packed_answer : {E : Type 0} → Result Event E → ℕ
+packed_answer (Ok e) = packed_event (event_says e)
+packed_answer (Err x) = 0

@@ -1,14 +1,17 @@
--- What an answer of the retry's calls, of a capture read and of a pane says tells which answer it is: so no second answer fits a contract.
+-- What an answer of the retry's calls, of a capture read and of a pane says tells which answer it is, and so do the refusals in order and a packed result
+-- taken apart: so no second answer fits a contract.
 -- Assumes nothing.
 use mathlib.Core.Path.{◌≡◌, refl, sym, ap, ◌∙◌}
 use mathlib.Core.Bool.{Bool, false, cond}
 use Prim.Native.Nat.{ℕ}
 use lib.Dec.{eqb}
-use Rattle.std.specs.Prelude.{Result, Ok, Err, Option, Some, None}
+use Rattle.std.specs.Prelude.{Result, Ok, Err, Option, Some, None, List, [], ◌∷◌, map}
 use Rattle.refusal.specs.declared.Refusal.{Refusal}
 use Rattle.refusal.specs.declared.Refusal.TheVariants.{OutOfRange, SegmentSize, NotWritable, NoBytes, Full, ShortOutput, LinkDown, BadCapture}
-use Rattle.refusal.specs.Order.{number_of, refusal_says}
-use Rattle.character_rules.proofs.Told.{the_refusal}
+use Rattle.refusal.specs.Order.{number_of, refusal_says, order_says}
+use Rattle.character_rules.specs.declared.Decoded.{Decoded}
+use Rattle.character_rules.specs.Answers.{decoded_says}
+use Rattle.character_rules.proofs.Told.{the_refusal, one_decoded}
 use Rattle.capture_rules.specs.Panes.{Move, move_says, moved_says}
 use Rattle.events_rules.specs.Answers.{ReadAnswer, read_says}
 use Rattle.retry_rules.specs.declared.Sender.{Sender}
@@ -18,7 +21,7 @@ use Rattle.retry_rules.specs.declared.Delivered.{Delivered}
 use Rattle.retry_rules.specs.declared.Arrival.{Arrival}
 use Rattle.retry_rules.specs.declared.Reply.{Reply}
 use Rattle.retry_rules.specs.declared.Reply.TheVariants.{Ack, Nack}
-use Rattle.retry_rules.specs.Answers.{Answered, Begun, OfferAnswer, SendAnswer, TickAnswer, ArrivalAnswer, offer_says, send_says, tick_says, arrival_says, damaged_says, delivery_beside}
+use Rattle.retry_rules.specs.Answers.{Answered, Begun, OfferAnswer, SendAnswer, TickAnswer, ArrivalAnswer, offer_says, send_says, tick_says, arrival_says, damaged_says, reply_says, delivery_beside}
 use Rattle.retry_rules.specs.Fresh.{fresh_says, begun_says, no_sender, no_receiver}
 
 -- the answer of a refusal's number, 0 for none, and of what is answered beside it
@@ -35,10 +38,36 @@ refused ShortOutput x = refl
 refused LinkDown x = refl
 refused BadCapture x = refl
 
+-- the refusals of a run of numbers
+number_told : (r : Refusal) → the_refusal (number_of r) ≡ r
+number_told OutOfRange = refl
+number_told SegmentSize = refl
+number_told NotWritable = refl
+number_told NoBytes = refl
+number_told Full = refl
+number_told ShortOutput = refl
+number_told LinkDown = refl
+number_told BadCapture = refl
+
+order_told : (rs : List Refusal) → map the_refusal (order_says rs) ≡ rs
+order_told [] = refl
+order_told (r ∷ rs) = λ i. number_told r i ∷ order_told rs i
+
 -- where an answer is made again from what it says, two that say the same are the same
 module _ {A S : Type 0} (says : A → S) (again : S → A) (told : (a : A) → again (says a) ≡ a) where
   one : (a b : A) → says a ≡ says b → a ≡ b
   one a b e = sym (told a) ∙ ap again e ∙ told b
+
+pub one_order : (a b : List Refusal) → order_says a ≡ order_says b → a ≡ b
+one_order = one order_says (map the_refusal) order_told
+
+-- of a packed result taken apart, which is never refused: what it says tells the result
+abbrev done : Decoded → Result Decoded Refusal → Decoded
+done d (Ok x) = x
+done d (Err r) = d
+
+pub one_unpacked : (a b : Decoded) → decoded_says a ≡ decoded_says b → a ≡ b
+one_unpacked a b e = ap (done a) (one_decoded (Ok a) (Ok b) e)
 
 -- of a call that answers nothing but its refusal: what is answered else is of one value
 module _ {A : Type 0} (x : A) (only : (y : A) → x ≡ y) where
@@ -85,6 +114,14 @@ one_send = one send_says the_send send_told
 
 abbrev the_reply : ArrivalAnswer → Reply
 the_reply s = cond s.nack (Nack s.number) (Ack s.number)
+
+-- of a reply that stands alone, as the one to a segment that is not taken
+reply_told : (x : Reply) → the_reply (reply_says x) ≡ x
+reply_told (Ack k) = refl
+reply_told (Nack k) = refl
+
+pub one_reply : (a b : Reply) → reply_says a ≡ reply_says b → a ≡ b
+one_reply = one reply_says the_reply reply_told
 
 abbrev the_damaged : ArrivalAnswer → Result Reply Refusal
 the_damaged s = of_number s.refusal (the_reply s)

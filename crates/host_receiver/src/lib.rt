@@ -17,11 +17,11 @@ pub extern "C" fn buzz_receiver_fresh(size: u32, receiver: &mut [u8; 4]) -> u32
             *receiver = receiver_bytes(made);
             0
         }
-        Err(refusal) => u32::from(refusal),
+        Err(refused) => u32::from(refused),
     }
 }
 
-// A damaged segment arrives: the reply.
+// A damaged segment arrives: the reply. The receiver stays, so its bytes are not stored again.
 #[tactic(auto, using(host_retry_rules::proofs::Called::done_refusal, host_retry_rules::proofs::Called::done_lent), unfolding(host_calls::specs::ReceiverCalls::arrives_damaged))]
 #[unsafe(no_mangle)]
 pub extern "C" fn buzz_receiver_damaged_arrival(
@@ -37,7 +37,6 @@ pub extern "C" fn buzz_receiver_damaged_arrival(
     match retry_receiver::damaged_arrival(&state) {
         Ok(answer) => {
             let [mark, number] = reply_numbers(answer);
-            *receiver = receiver_bytes(state);
             *nack = mark;
             *reply = number;
             0

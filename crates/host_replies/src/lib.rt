@@ -36,7 +36,7 @@ pub extern "C" fn buzz_sender_damaged_reply(sender: &mut [u8; 38]) -> u32
             *sender = sender_bytes(state);
             0
         }
-        Err(refusal) => u32::from(refusal),
+        Err(refused) => u32::from(refused),
     }
 }
 

@@ -132,7 +132,7 @@ refuses_nothing (StartPriority c n) = refl
 refuses_nothing (Byte b) = refl
 refuses_nothing (End bad) = refl
 refuses_nothing (Lmp nack n) = refl
-refuses_nothing (Violates v) = refl
+refuses_nothing (Violates n) = refl
 
 module _ (bytes : List ℕ) (violation byte control : ℕ) where
   pub leaves_old : (r : Refusal) → refused (number_of r) ≡ (step_numbers bytes violation byte control).said → step_leaves bytes violation byte control ≡ bytes

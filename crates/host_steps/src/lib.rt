@@ -7,8 +7,8 @@ ghost use Rattle.refusal.specs.declared.Refusal.TheVariants.{OutOfRange};
 ghost use Rattle.character_rules.specs.Answers.{reading_says};
 ghost use Rattle.packet_rules.specs.Answers.{answer_says};
 ghost use Rattle.host_rules.specs.Characters.{symbol_of};
-ghost use Rattle.host_rules.specs.Stepping.{numbers_read, step_numbers, step_leaves, told_of};
-ghost use Rattle.host_steps.specs.Told.{answer_told_says};
+ghost use Rattle.host_rules.specs.Stepping.{numbers_read, step_numbers, step_leaves};
+ghost use Rattle.host_steps.specs.Told.{answer_numbers};
 
 use character_rules::Decoded;
 use host_rules::EventNumbers;
@@ -47,7 +47,7 @@ pub fn step(bytes: &mut [u8; 15], violation: u32, byte: u32, control: u32) -> Re
 {
     let mut reader = host_reader_bytes::reader_from(*bytes)?;
     let decoded = result_of(violation, byte, control)?;
-    let event = packet_reader::step(&mut reader, Ok(decoded))?;
+    let event = packet_reader::step::<Refusal>(&mut reader, Ok(decoded))?;
     *bytes = host_reader_bytes::reader_bytes(reader);
     Ok(event)
 }
@@ -62,14 +62,14 @@ fn event_numbers(event: u32, value: u8, number: u8) -> EventNumbers
     }
 }
 
-// What a step says, in the numbers that C gets; a refusal is handed on. It is no From, which a Result cannot have from another crate.
+// What a step says, in the numbers that C gets; a refusal, whatever it is, is handed on. It is no From, which a Result cannot have from another crate.
 #[tactic(auto, unfolding(host_rules::specs::Stepping::told_of))]
-pub fn told(said: Result<Event, Refusal>) -> Result<EventNumbers, Refusal>
-    ensures { answer_told_says result ≡ told_of (answer_says said) }
+pub fn told<E>(said: Result<Event, E>) -> Result<EventNumbers, E>
+    ensures { result ≡ answer_numbers said }
 {
     Ok(match said? {
         Event::Nothing => event_numbers(0, 0, 0),
-        Event::Violation(violation) => event_numbers(1, violation.number(), 0),
+        Event::Violation(n) => event_numbers(1, n, 0),
         Event::StartData(channel) => event_numbers(2, channel, 0),
         Event::StartPriority { channel, segment } => event_numbers(3, channel, segment),
         Event::Byte(b) => event_numbers(4, b, 0),

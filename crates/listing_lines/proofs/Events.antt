@@ -9,7 +9,7 @@ use lib.ListN.{length, length-append}
 use borrow.Author.Tests.{le-leb}
 use Rattle.packet_rules.specs.declared.Event.{Event}
 use Rattle.packet_rules.specs.declared.Event.TheVariants.{Nothing, StartData, StartPriority, Byte, End, Lmp, Violation as Violates}
-use Rattle.packet_rules.specs.Answers.{event_says, violation_number}
+use Rattle.packet_rules.specs.Answers.{event_says}
 use Rattle.listing_rules.specs.Text.{decimal, space, line_feed, start_word, data_word, priority_word, violation_word, end_word, bad_word, good_word, lmp_word}
 use Rattle.listing_rules.specs.Text.{ack_word, nack_word}
 use Rattle.listing_rules.specs.Lines.{fields_of, event_line}
@@ -57,7 +57,7 @@ event_short place Nothing = omega arith
 event_short place (Byte b) = omega arith
 event_short place (StartData c) = numbered_short place c start_data (omega arith)
 event_short place (StartPriority c n) = numbered_short place c start_priority (omega arith)
-event_short place (Violates v) = numbered_short place (violation_number v) violation (omega arith)
+event_short place (Violates n) = numbered_short place n violation (omega arith)
 event_short place (End true) = worded_short place end_bad (omega arith)
 event_short place (End false) = worded_short place end_good (omega arith)
 event_short place (Lmp true n) = numbered_short place n lmp_nack (omega arith)

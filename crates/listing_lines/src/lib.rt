@@ -9,6 +9,7 @@ ghost use Rattle.listing_lines.specs.Results.{is_block, progress_of, lines_put, 
 
 use listing_rules::Reached;
 use packet_rules::{Event, Reader};
+use refusal::Refusal;
 
 // How the lines of a run stand so far: the index after them, the events, and the reader after the run.
 #[derive(Clone, Copy, Debug, PartialEq, Eq)]
@@ -62,13 +63,9 @@ fn put_event(place: usize, event: Event, at: usize, out: &mut [u8; 2048]) -> usi
         ),
         Event::End { bad } => put_end_of_packet(place, bad, at, out),
         Event::Lmp { nack, segment } => put_lmp(place, nack, segment, at, out),
-        Event::Violation(violation) => listing_text::put_numbered(
-            place,
-            b" violation ",
-            usize::from(violation.number()),
-            at,
-            out,
-        ),
+        Event::Violation(n) => {
+            listing_text::put_numbered(place, b" violation ", usize::from(n), at, out)
+        }
     }
 }
 
@@ -86,7 +83,7 @@ fn put_result(res: u16, place: usize, p: Progress, out: &mut [u8; 2048]) -> Prog
 {
     let mut reader = p.reader;
     let decoded = character_reader::unpack_result(res);
-    let Ok(event) = packet_reader::step(&mut reader, Ok(decoded)) else {
+    let Ok(event) = packet_reader::step::<Refusal>(&mut reader, Ok(decoded)) else {
         return Progress { reader, ..p };
     };
     if !has_line(event) {

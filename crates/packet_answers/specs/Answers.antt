@@ -7,7 +7,6 @@ use Rattle.packet_rules.specs.declared.Phase.{Phase}
 use Rattle.packet_rules.specs.declared.Phase.TheVariants.{Free, Dropping}
 use Rattle.packet_rules.specs.declared.Event.{Event}
 use Rattle.packet_rules.specs.declared.Event.TheVariants.{StartData, StartPriority, Violation as Violates}
-use Rattle.packet_rules.specs.declared.Violation.{Violation}
 use Rattle.packet_rules.specs.declared.Reader.{Reader}
 use Rattle.packet_rules.specs.declared.Step.{Step}
 
@@ -17,8 +16,8 @@ to e d p w r = record { event = e; reader = record { size = r.size; packet = d; 
 abbrev pub moved_to : Event → Phase → Reader → Step
 moved_to e w r = to e r.packet r.priority w r
 
-abbrev pub violated_to : Violation → Reader → Step
-violated_to v r = to (Violates v) None None Dropping r
+abbrev pub violated_to : ℕ → Reader → Step
+violated_to n r = to (Violates n) None None Dropping r
 
 abbrev pub closed_to : Event → Reader → OpenPriority → Step
 closed_to e r (Some inner) = to e r.packet None Free r

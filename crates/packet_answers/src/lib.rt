@@ -5,9 +5,7 @@ ghost use Rattle.std.specs.Prelude.{◌≡◌};
 ghost use Rattle.packet_rules.specs.Step.{due_after};
 ghost use Rattle.packet_answers.specs.Answers.{moved_to, violated_to, closed_to, started_data, started_priority};
 
-use packet_rules::{
-    DataPacket, Due, Event, Opener, Phase, PriorityPacket, Reader, Step, Violation,
-};
+use packet_rules::{DataPacket, Due, Event, Opener, Phase, PriorityPacket, Reader, Step};
 
 // The packets stay as they are.
 pub fn moved(event: Event, phase: Phase, r: Reader) -> Step
@@ -19,16 +17,16 @@ pub fn moved(event: Event, phase: Phase, r: Reader) -> Step
     }
 }
 
-// A violation that closes all open packets.
-pub fn violated(v: Violation, r: Reader) -> Step
-    ensures { result ≡ violated_to v r }
+// A violation, by its number, that closes all open packets.
+pub fn violated(n: u8, r: Reader) -> Step
+    ensures { result ≡ violated_to n r }
 {
     let closed = Reader {
         packet: None,
         priority: None,
         ..r
     };
-    moved(Event::Violation(v), Phase::Dropping, closed)
+    moved(Event::Violation(n), Phase::Dropping, closed)
 }
 
 // The packet to which an end belongs is closed.

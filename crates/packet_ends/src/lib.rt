@@ -20,6 +20,6 @@ pub fn end_event(r: Reader, bad: bool, a: u8, b: u8) -> Event
     if is_right_crc(packet_open::register_in(r), a, b) {
         Event::End { bad }
     } else {
-        Event::Violation(Violation::Crc)
+        Event::Violation(Violation::Crc.number())
     }
 }

@@ -22,9 +22,9 @@ pub fn in_idles(r: Reader, n: u8, k: Kind) -> Step
             moved(Event::Nothing, phase, r)
         }
         Kind::Data(_) | Kind::Com | Kind::Opens(_) | Kind::Closes(_) | Kind::NoPlace => {
-            violated(Violation::OutOfPlace, r)
+            violated(Violation::OutOfPlace.number(), r)
         }
-        Kind::Unsupported => violated(Violation::Unsupported, r),
+        Kind::Unsupported => violated(Violation::Unsupported.number(), r),
     }
 }
 

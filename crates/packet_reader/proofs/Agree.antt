@@ -30,10 +30,11 @@ use Rattle.packet_rules.specs.Answers.{Said, Answer, event_says, answer_says, st
 use Rattle.packet_rules.specs.State.{outside, has_byte, opening_byte, register_in, well_formed}
 use Rattle.packet_rules.specs.Symbols.{kind_of}
 use Rattle.packet_rules.specs.Violations.{right_crc, violation_of}
-use Rattle.packet_rules.specs.Step.{lmp_said, broken, dropped, read_of, refused_step, step_of}
+use Rattle.packet_rules.specs.Step.{lmp_said, broken, dropped, read_of, refused_step, step_of, step_with}
 use Rattle.packet_rules.specs.Line.{is_reply}
 use Rattle.packet_rules.proofs.Steps.{st}
 use Rattle.packet_rules.proofs.Legal.{reply_said, other_said}
+use Rattle.packet_rules.proofs.Unread.{with_says}
 use Rattle.packet_turns.specs.Turns.{may_start, free_of}
 use Rattle.packet_sequences.specs.Sequences.{lmp_of, due_of, seq_of}
 use Rattle.packet_idles.specs.Idles.{idle_of, drop_of}
@@ -187,37 +188,44 @@ module _ (s : ℕ) (x : Symbol) (e : ℤ) where
     cleans (Idles n) k = idles s d p x e n k
     cleans Dropping k = drops s d p x e k
 
--- THE LAW: in a state that keeps the rule
-pub agree : (r : Reader) (g : Result Decoded Refusal) → well_formed r ≡ true → answered r (tried_of r g) ≡ step_of r (reading_says g)
+-- THE LAW: in a state that keeps the rule, whatever refused the result
+pub agree_with : {E : Type 0} (r : Reader) (g : Result Decoded E) → well_formed r ≡ true → answered r (tried_of r g) ≡ step_with r g
 unfolding advance_of step_of class_of
-agree r (Ok (Clean x e)) ok = by (is_symbol x) refl
+agree_with r (Ok (Clean x e)) ok = by (is_symbol x) refl
   where
     by : (t : Bool) → is_symbol x ≡ t → answered r (advance_of r (Clean x e)) ≡ step_of r (decoded_says (Clean x e))
     by true h = simp (ok, h) (cleans r.size x e r.packet r.priority r.phase (kind_of x))
     by false h = simp (ok, h)
-agree r (Ok (WrongDisparity x e)) ok = by (is_symbol x) refl
+agree_with r (Ok (WrongDisparity x e)) ok = by (is_symbol x) refl
   where
     by : (t : Bool) → is_symbol x ≡ t → answered r (advance_of r (WrongDisparity x e)) ≡ step_of r (decoded_says (WrongDisparity x e))
     by true h = simp (ok, h) (wrongs r.size r.packet r.priority x e r.phase (kind_of x))
     by false h = simp (ok, h)
-agree r (Ok (Invalid e)) ok = simp ok (invalids r.size r.packet r.priority (record { byte = 0; control = false }) e r.phase)
-agree r (Err n) ok = refl
+agree_with r (Ok (Invalid e)) ok = simp ok (invalids r.size r.packet r.priority (record { byte = 0; control = false }) e r.phase)
+agree_with r (Err n) ok = refl
 
 -- a state that breaks the rule is refused
-pub ill_formed : (r : Reader) (g : Result Decoded Refusal) → well_formed r ≡ false → refused_step r 1 ≡ step_of r (reading_says g)
+pub ill_formed_with : {E : Type 0} (r : Reader) (g : Result Decoded E) → well_formed r ≡ false → refused_step r 1 ≡ step_with r g
 unfolding step_of
-ill_formed r (Ok (Clean x e)) h = by (is_symbol x) refl
+ill_formed_with r (Ok (Clean x e)) h = by (is_symbol x) refl
   where
     by : (t : Bool) → is_symbol x ≡ t → refused_step r 1 ≡ step_of r (decoded_says (Clean x e))
     by true q = simp (h, q)
     by false q = simp q
-ill_formed r (Ok (WrongDisparity x e)) h = by (is_symbol x) refl
+ill_formed_with r (Ok (WrongDisparity x e)) h = by (is_symbol x) refl
   where
     by : (t : Bool) → is_symbol x ≡ t → refused_step r 1 ≡ step_of r (decoded_says (WrongDisparity x e))
     by true q = simp (h, q)
     by false q = simp q
-ill_formed r (Ok (Invalid e)) h = simp h
-ill_formed r (Err n) h = refl
+ill_formed_with r (Ok (Invalid e)) h = simp h
+ill_formed_with r (Err n) h = refl
+
+-- and so of what the result says, where a refusal has its number
+pub agree : (r : Reader) (g : Result Decoded Refusal) → well_formed r ≡ true → answered r (tried_of r g) ≡ step_of r (reading_says g)
+agree r g ok = agree_with r g ok ∙ with_says r g
+
+pub ill_formed : (r : Reader) (g : Result Decoded Refusal) → well_formed r ≡ false → refused_step r 1 ≡ step_of r (reading_says g)
+ill_formed r g h = ill_formed_with r g h ∙ with_says r g
 
 -- ---- what a call gives and what it leaves are the two parts of the answer
 
@@ -229,8 +237,8 @@ left_is : (r : Reader) (a : Result Step Refusal) → reader_of r a ≡ (answered
 left_is r (Ok s) = refl
 left_is r (Err e) = refl
 
-pub says_step : (r : Reader) (g : Result Decoded Refusal) → well_formed r ≡ true → answer_says (event_of (tried_of r g)) ≡ (step_of r (reading_says g)).said
-says_step r g ok = said_is r (tried_of r g) ∙ ap (λ (a : Answer). a.said) (agree r g ok)
+pub says_step : {E : Type 0} (r : Reader) (g : Result Decoded E) → well_formed r ≡ true → answer_says (event_of (tried_of r g)) ≡ (step_with r g).said
+says_step r g ok = said_is r (tried_of r g) ∙ ap (λ (a : Answer). a.said) (agree_with r g ok)
 
-pub leaves_step : (r : Reader) (g : Result Decoded Refusal) → well_formed r ≡ true → reader_of r (tried_of r g) ≡ (step_of r (reading_says g)).reader
-leaves_step r g ok = left_is r (tried_of r g) ∙ ap (λ (a : Answer). a.reader) (agree r g ok)
+pub leaves_step : {E : Type 0} (r : Reader) (g : Result Decoded E) → well_formed r ≡ true → reader_of r (tried_of r g) ≡ (step_with r g).reader
+leaves_step r g ok = left_is r (tried_of r g) ∙ ap (λ (a : Answer). a.reader) (agree_with r g ok)

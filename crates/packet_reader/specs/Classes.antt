@@ -14,7 +14,7 @@ use Rattle.packet_rules.specs.declared.Violation.{Violation}
 use Rattle.packet_rules.specs.declared.Violation.TheVariants.{Invalid as NoCharacter, WrongDisparity as OtherDisparity}
 use Rattle.packet_rules.specs.declared.Reader.{Reader}
 use Rattle.packet_rules.specs.declared.Step.{Step}
-use Rattle.packet_rules.specs.Answers.{Answer, step_says}
+use Rattle.packet_rules.specs.Answers.{Answer, violation_number, step_says}
 use Rattle.packet_rules.specs.Step.{refused_step}
 use Rattle.packet_rules.specs.Symbols.{kind_of}
 use Rattle.packet_rules.specs.declared.Phase.{Phase}
@@ -34,9 +34,9 @@ clean_of (Idles n) k r = idle_of n k r
 clean_of Dropping k r = drop_of k r
 
 abbrev pub spoiled_of : Violation → Phase → Reader → Step
-spoiled_of v Free r = violated_to v r
-spoiled_of v (Next due) r = violated_to v r
-spoiled_of v (Idles i) r = violated_to v r
+spoiled_of v Free r = violated_to (violation_number v) r
+spoiled_of v (Next due) r = violated_to (violation_number v) r
+spoiled_of v (Idles i) r = violated_to (violation_number v) r
 spoiled_of v Dropping r = moved_to Nothing Dropping r
 
 abbrev pub known_of : Option Kind → (Kind → Step) → Result Step Refusal
@@ -57,8 +57,8 @@ abbrev pub reader_of : Reader → Result Step Refusal → Reader
 reader_of r (Ok s) = s.reader
 reader_of r (Err e) = r
 
--- of a result that may itself be refused
-abbrev pub tried_of : Reader → Result Decoded Refusal → Result Step Refusal
+-- of a result that may itself be refused, by whatever
+abbrev pub tried_of : {E : Type 0} → Reader → Result Decoded E → Result Step Refusal
 tried_of r (Ok g) = advance_of r g
 tried_of r (Err e) = Err OutOfRange
 

@@ -2,10 +2,9 @@
 #![tactic(auto)]
 
 ghost use Rattle.std.specs.Prelude.{◌≡◌};
-ghost use Rattle.character_rules.specs.Answers.{reading_says};
 ghost use Rattle.packet_rules.specs.Answers.{answer_says, fresh_says};
 ghost use Rattle.packet_rules.specs.State.{fresh_reader};
-ghost use Rattle.packet_rules.specs.Step.{step_of};
+ghost use Rattle.packet_rules.specs.Step.{step_with};
 ghost use Rattle.packet_reader.specs.Classes.{class_of, clean_of, spoiled_of, advance_of, event_of, reader_of, tried_of};
 
 use character_rules::Decoded;
@@ -57,7 +56,7 @@ fn spoiled(v: Violation, r: Reader) -> Step
 {
     match r.phase {
         Phase::Dropping => packet_answers::moved(Event::Nothing, Phase::Dropping, r),
-        _ => packet_answers::violated(v, r),
+        _ => packet_answers::violated(v.number(), r),
     }
 }
 
@@ -79,8 +78,8 @@ fn advanced(r: Reader, decoded: Decoded) -> Result<Step, Refusal>
     }
 }
 
-// The step in a state that keeps the rule; a run of characters tests the rule once and goes on by this.
-pub fn advance(reader: &mut Reader, res: Result<Decoded, Refusal>) -> Result<Event, Refusal>
+// The step in a state that keeps the rule; a run of characters tests the rule once and goes on by this. What refused a character is not looked at.
+pub fn advance<E: Drop>(reader: &mut Reader, res: Result<Decoded, E>) -> Result<Event, Refusal>
     ensures { (result ≡ event_of (tried_of reader.old res)) × (reader.new ≡ reader_of reader.old (tried_of reader.old res)) }
 {
     let Ok(decoded) = res else {
@@ -92,9 +91,9 @@ pub fn advance(reader: &mut Reader, res: Result<Decoded, Refusal>) -> Result<Eve
 }
 
 // One character result in, one event out.
-pub fn step(reader: &mut Reader, res: Result<Decoded, Refusal>) -> Result<Event, Refusal>
-    ensures { (answer_says result ≡ (step_of reader.old (reading_says res)).said)
-        × (reader.new ≡ (step_of reader.old (reading_says res)).reader) }
+pub fn step<E: Drop>(reader: &mut Reader, res: Result<Decoded, E>) -> Result<Event, Refusal>
+    ensures { (answer_says result ≡ (step_with reader.old res).said)
+        × (reader.new ≡ (step_with reader.old res).reader) }
 {
     if !packet_state::is_well_formed(*reader) {
         return Err(Refusal::OutOfRange);

@@ -1,4 +1,5 @@
 pub mod Told
+pub mod Unread
 pub mod Choice
 pub mod Lowest
 pub mod Kept

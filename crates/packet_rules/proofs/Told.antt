@@ -72,7 +72,7 @@ the_start s = given s.segment (StartPriority s.channel) (StartData s.channel)
 
 abbrev pub the_event : Said → Event
 the_event s =
-    given s.violation (λ n. Violates (the_violation n))
+    given s.violation Violates
     (given s.start the_start
     (given s.byte Byte
     (given s.end End
@@ -85,7 +85,7 @@ event_told (StartPriority c n) = refl
 event_told (Byte b) = refl
 event_told (End bad) = refl
 event_told (Lmp nack n) = refl
-event_told (Violates v) = ap Violates (violation_told v)
+event_told (Violates n) = refl
 
 abbrev pub the_answer : Said → Result Event Refusal
 the_answer s = given s.refusal (λ n. Err (the_refusal n)) (Ok (the_event s))
@@ -97,7 +97,7 @@ answer_told (Ok (StartPriority c n)) = refl
 answer_told (Ok (Byte b)) = refl
 answer_told (Ok (End bad)) = refl
 answer_told (Ok (Lmp nack n)) = refl
-answer_told (Ok (Violates v)) = ap (λ (x : Violation). Ok (Violates x)) (violation_told v)
+answer_told (Ok (Violates n)) = refl
 answer_told (Err r) = ap (λ (x : Refusal). Err x) (refusal_told r)
 
 abbrev pub the_step : Answer → Step

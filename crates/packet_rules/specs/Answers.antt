@@ -69,7 +69,7 @@ event_says (StartPriority c n) = started c (some n)
 event_says (Byte b) = gave_byte b
 event_says (End bad) = ended bad
 event_says (Lmp nack n) = replied nack n
-event_says (Violates v) = violated (violation_number v)
+event_says (Violates n) = violated n
 
 -- of a step that may be refused
 abbrev pub answer_says : Result Event Refusal → Said

@@ -1,10 +1,11 @@
 -- What the reader answers to one character result, and the state it goes to.
-use Rattle.std.specs.Prelude.{ℕ, ◌-◌, ◌/◌, ◌%◌, Bool, true, false, cond, not, ◌&&◌, List, [], ◌∷◌, eqb, ltb, leb, ℤ, Some, None}
+use Rattle.std.specs.Prelude.{ℕ, ◌-◌, ◌/◌, ◌%◌, Bool, true, false, cond, not, ◌&&◌, List, [], ◌∷◌, eqb, ltb, leb, ℤ, Some, None, Result, Ok, Err}
 use Rattle.std.proofs.Math.Option.{Option, none, some}
 use Rattle.refusal.specs.Order.{Check, check, outcome}
 use Rattle.symbol.specs.Symbols.{is_symbol}
 use Rattle.symbol.specs.declared.Symbol.{Symbol}
-use Rattle.character_rules.specs.Answers.{Reading}
+use Rattle.character_rules.specs.declared.Decoded.{Decoded}
+use Rattle.character_rules.specs.Answers.{Reading, decoded_says}
 use Rattle.crc.specs.Crc16.{crc_start}
 use Rattle.packet_rules.specs.declared.Opener.{Opener}
 use Rattle.packet_rules.specs.declared.Opener.TheVariants.{Sdp, Spp, Slp}
@@ -149,3 +150,8 @@ refused_step r n = record { said = refused n; reader = r }
 
 unfoldable pub step_of : Reader → Reading → Answer
 step_of r g = outcome (step_checks r g) (refused_step r) (read_of r g (kind_in g.symbol))
+
+-- of a character result that may itself have been refused: refusal 1, whatever refused it
+abbrev pub step_with : {E : Type 0} → Reader → Result Decoded E → Answer
+step_with r (Ok g) = step_of r (decoded_says g)
+step_with r (Err e) = refused_step r 1

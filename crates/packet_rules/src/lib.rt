@@ -57,7 +57,8 @@ pub enum Event {
     End { bad: bool },
     // A retry LMP: ACK or NACK, with its number.
     Lmp { nack: bool, segment: u8 },
-    Violation(Violation),
+    // By its number; the ten that a step gives are the numbers of `Violation`.
+    Violation(u8),
 }
 
 // The symbols that open something: a data packet, a priority packet, an LMP.

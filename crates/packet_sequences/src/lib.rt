@@ -35,7 +35,7 @@ fn due_byte(r: Reader, due: Due, b: u8) -> Step
             if b == packet_open::opening_byte(r) {
                 moved(Event::Nothing, Phase::Next(Due::FirstCrc(bad)), r)
             } else {
-                violated(Violation::Channel, r)
+                violated(Violation::Channel.number(), r)
             }
         }
         Due::FirstCrc(bad) => moved(Event::Nothing, Phase::Next(Due::SecondCrc(bad, b)), r),
@@ -46,7 +46,7 @@ fn due_byte(r: Reader, due: Due, b: u8) -> Step
             let event = if b == t ^ n {
                 lmp(t, n)
             } else {
-                Event::Violation(Violation::LmpCheck)
+                Event::Violation(Violation::LmpCheck.number())
             };
             moved(event, Phase::Free, r)
         }
@@ -61,8 +61,8 @@ pub fn in_sequence(r: Reader, due: Due, k: Kind) -> Step
     match k {
         Kind::Data(b) => due_byte(r, due, b),
         Kind::Idl | Kind::Com | Kind::Opens(_) | Kind::Closes(_) | Kind::NoPlace => {
-            violated(Violation::OutOfPlace, r)
+            violated(Violation::OutOfPlace.number(), r)
         }
-        Kind::Unsupported => violated(Violation::Unsupported, r),
+        Kind::Unsupported => violated(Violation::Unsupported.number(), r),
     }
 }

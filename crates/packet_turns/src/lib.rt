@@ -15,7 +15,7 @@ fn user_byte(r: Reader, b: u8) -> Step
     match (r.packet, r.priority) {
         (_, Some(inner)) => {
             if r.size <= inner.count {
-                return violated(Violation::TooLong, r);
+                return violated(Violation::TooLong.number(), r);
             }
             let priority = Some(PriorityPacket {
                 count: inner.count + 1,
@@ -34,7 +34,7 @@ fn user_byte(r: Reader, b: u8) -> Step
         }
         (None, None) => match b {
             0 => moved(Event::Nothing, Phase::Free, r),
-            _ => violated(Violation::Outside, r),
+            _ => violated(Violation::Outside.number(), r),
         },
     }
 }
@@ -43,11 +43,11 @@ fn end_symbol(r: Reader, bad: bool) -> Step
     ensures { result ≡ end_in r.packet r.priority bad r }
 {
     if packet_open::is_outside(r) {
-        violated(Violation::OutOfPlace, r)
+        violated(Violation::OutOfPlace.number(), r)
     } else if packet_open::has_byte(r) {
         moved(Event::Nothing, Phase::Next(Due::Closing(bad)), r)
     } else {
-        violated(Violation::NoByte, r)
+        violated(Violation::NoByte.number(), r)
     }
 }
 
@@ -74,11 +74,11 @@ pub fn free(r: Reader, k: Kind) -> Step
             if may_start(o, r) {
                 moved(Event::Nothing, Phase::Next(packet_answers::due_after(o)), r)
             } else {
-                violated(Violation::OutOfPlace, r)
+                violated(Violation::OutOfPlace.number(), r)
             }
         }
         Kind::Closes(bad) => end_symbol(r, bad),
-        Kind::NoPlace => violated(Violation::OutOfPlace, r),
-        Kind::Unsupported => violated(Violation::Unsupported, r),
+        Kind::NoPlace => violated(Violation::OutOfPlace.number(), r),
+        Kind::Unsupported => violated(Violation::Unsupported.number(), r),
     }
 }

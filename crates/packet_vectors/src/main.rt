@@ -49,7 +49,7 @@ impl fmt::Display for Line {
             Ok(Event::Byte(b)) => write!(f, "byte {b}"),
             Ok(Event::End { bad }) => write!(f, "end {}", u8::from(bad)),
             Ok(Event::Lmp { nack, segment }) => write!(f, "lmp {} {segment}", u8::from(nack)),
-            Ok(Event::Violation(v)) => write!(f, "violation {}", v.number()),
+            Ok(Event::Violation(n)) => write!(f, "violation {n}"),
             Err(refusal) => write!(f, "{refusal}"),
         }
     }

@@ -1,6 +1,6 @@
 -- User bytes written as one run into the part of the output that begins at the place.
 -- Assumes nothing.
-use mathlib.Core.Path.{◌≡◌, sym, ap, ap₂, ◌∙◌}
+use mathlib.Core.Path.{◌≡◌, refl, sym, ap, ap₂, ◌∙◌}
 use mathlib.Core.Option.{some-injective}
 use mathlib.Core.List.{List, [], ◌++◌, map, append-nil}
 use Prim.Native.Nat.{ℕ, ◌+◌, ◌-◌, ◌≤◌}
@@ -11,9 +11,13 @@ use lib.ListN.{length, take, drop, length-drop}
 use lib.Seq.{take_all, drop-drop, drop-length}
 use Rattle.laws.proofs.Bools.{T_true}
 use Rattle.laws.proofs.Cases.{some_is_not_none}
+use Rattle.std.specs.Prelude.{Result, Ok, Err}
+use Rattle.std.specs.Result.{IsOk}
+use Rattle.refusal.specs.declared.Refusal.{Refusal}
+use Rattle.refusal.specs.Order.{number_of}
 use Rattle.symbol.specs.Symbols.{data_symbol}
 use Rattle.character_rules.specs.Disparity.{is_disparity}
-use Rattle.character_rules.specs.Answers.{RunWriting, run_written, not_run_written}
+use Rattle.character_rules.specs.Answers.{RunWriting, run_written, not_run_written, run_written_says}
 use Rattle.character_rules.specs.Writing.{run_characters, run_end, run_writing, run_stored, characters_of, closing_of}
 use Rattle.character_rules.proofs.WriteLaws.{write_done}
 use Rattle.packet_rules.specs.declared.Written.{Written}
@@ -66,3 +70,7 @@ module _ (p : Written) (bs old : List ℕ) (room : p.count + length bs ≤ lengt
   -- and it was not refused
   pub run_not_refused : (n : ℕ) → not_run_written n ≡ run_writing bs p.disparity (length part) → ⊥
   run_not_refused n h = some_is_not_none (sym (ap (λ (w : RunWriting). w.disparity) (h ∙ sym done.0)))
+
+  pub run_never_refused : (a : Result ℤ Refusal) → run_written_says a ≡ run_writing bs p.disparity (length part) → IsOk a
+  run_never_refused (Ok e) h = refl
+  run_never_refused (Err r) h = absurd (run_not_refused (number_of r) h)

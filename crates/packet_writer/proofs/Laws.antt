@@ -1,6 +1,6 @@
 -- What is written in two parts is written in one; and one character stored.
 -- Assumes nothing.
-use mathlib.Core.Path.{◌≡◌, sym, ap, ap₂, ◌∙◌, subst}
+use mathlib.Core.Path.{◌≡◌, refl, sym, ap, ap₂, ◌∙◌, subst}
 use mathlib.Core.Option.{some-injective}
 use mathlib.Core.List.{List, [], ◌∷◌, ◌++◌, append_assoc}
 use Prim.Native.Nat.{ℕ, ◌+◌, ◌≤◌, ◌<◌}
@@ -11,11 +11,16 @@ use lib.Dec.{T}
 use lib.IntN.{ℤ}
 use lib.ListN.{length, set, take, drop, length-append, take-append-drop}
 use lib.Seq.{set_split, take_at, drop_at, drop-drop, length-take-le}
+use Rattle.std.specs.Prelude.{Result, Ok, Err}
+use Rattle.std.specs.Result.{IsOk}
+use Rattle.refusal.specs.declared.Refusal.{Refusal}
+use Rattle.refusal.specs.Order.{number_of}
 use Rattle.symbol.specs.declared.Symbol.{Symbol}
 use Rattle.laws.proofs.Cases.{some_is_not_none}
 use Rattle.character_rules.specs.Disparity.{is_disparity}
 use Rattle.character_rules.specs.Blocks.{character, closing}
-use Rattle.character_rules.specs.Answers.{Writing, written, not_written}
+use Rattle.character_rules.specs.declared.Encoded.{Encoded}
+use Rattle.character_rules.specs.Answers.{Writing, written, not_written, writing_says}
 use Rattle.character_rules.specs.Writing.{writing, characters_of, closing_of}
 use Rattle.character_rules.specs.Demand.{can_write}
 use Rattle.character_rules.proofs.Trip.{writes}
@@ -88,3 +93,8 @@ module _ (x : Symbol) (d : ℤ) (can : T (can_write x)) (t : T (is_disparity d))
 
   pub not_refused : (n : ℕ) → not_written n ≡ writing x d → ⊥
   not_refused n q = some_is_not_none (sym (ap (λ (w : Writing). w.character) (q ∙ writes x d can t)))
+
+  -- so it was not
+  pub never_refused : (a : Result Encoded Refusal) → writing_says a ≡ writing x d → IsOk a
+  never_refused (Ok w) q = refl
+  never_refused (Err r) q = absurd (not_refused (number_of r) q)

@@ -10,8 +10,8 @@ use lib.ListN.{length, drop}
 use Rattle.std.specs.Prelude.{Result, Ok, Err, IsOkAnd}
 use Rattle.refusal.specs.declared.Refusal.{Refusal}
 use Rattle.refusal.specs.Order.{number_of, refusal_of}
-use Rattle.refusal.proofs.Laws.{done, hands_back}
-use Rattle.refusal.proofs.Answers.{has_number, if_err}
+use Rattle.refusal.proofs.Laws.{done, refused, hands_back}
+use Rattle.refusal.proofs.Answers.{has_number}
 use native.Mathlib.Omega.{arith}
 use Rattle.character_rules.specs.Writing.{characters_of, closing_of}
 use Rattle.packet_rules.specs.Line.{SPP}
@@ -22,15 +22,20 @@ use Rattle.packet_writer.specs.Writing.{Wrote}
 
 module _ (s : ℕ) (p : Packet) (d : ℤ) (old : List ℕ) where
   -- the output as it stood
-  pub refused_with : (r : Refusal) → refusal_of (packet_checks s p d (length old)) ≡ number_of r
-      → (not_wrote (number_of r) ≡ packet_writing s p d old) × (old ≡ packet_output s p d old)
+  pub refused_with : (n : ℕ) → refusal_of (packet_checks s p d (length old)) ≡ n → (n ≡ 0 → ⊥)
+      → (not_wrote n ≡ packet_writing s p d old) × (old ≡ packet_output s p d old)
   unfolding packet_writing packet_output
-  refused_with r e =
+  refused_with n e h =
       let cs = packet_checks s p d (length old) in
       let ch = characters_of (symbols_of p) d ++ drop (length (symbols_of p)) old in
       let w = wrote (length (symbols_of p)) (closing_of (symbols_of p) d) in
-      let k : (refusal_of cs ≡ 0 → ⊥) = λ z. let n = has_number r in let q = sym e ∙ z in omega (arith, n, q) in
-      (sym (if_err cs not_wrote w r (sym e)), sym (hands_back cs old ch k))
+      let k : (refusal_of cs ≡ 0 → ⊥) = λ z. h (sym e ∙ z) in
+      (sym (refused cs not_wrote w k ∙ ap not_wrote e), sym (hands_back cs old ch k))
+
+  -- the same of a refusal, which has a number that is not 0
+  pub refused_as : (r : Refusal) → refusal_of (packet_checks s p d (length old)) ≡ number_of r
+      → (not_wrote (number_of r) ≡ packet_writing s p d old) × (old ≡ packet_output s p d old)
+  refused_as r e = refused_with (number_of r) e (λ z. let n = has_number r in omega (arith, n, z))
 
   -- all of the packet, and nothing past it
   pub written_all : {new : List ℕ} (r : Result Written Refusal) → refusal_of (packet_checks s p d (length old)) ≡ 0
@@ -56,8 +61,3 @@ unfolding symbols_of
 priority_all s c g bytes bad d old {new} r o e f w =
     written_all s (in_priority c g bytes bad) d old r f
     (subst (λ (x : ℕ). IsOkAnd r (Wrote (record { count = 0; disparity = d }) (packet_symbols SPP x bytes bad) old new)) e w)
-
--- what holds of a value that was given
-pub ok_then : {P Q : Written → Type 0} (r : Result Written Refusal) → ((q : Written) → P q → Q q) → IsOkAnd r P → IsOkAnd r Q
-ok_then (Ok q) f p = f q p
-ok_then (Err e) f p = p

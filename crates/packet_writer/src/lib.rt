@@ -1,7 +1,7 @@
 // The packet writer: one whole data packet, priority packet or retry LMP a call, as ten-bit characters into lent memory.
 #![tactic(auto)]
 
-ghost use Rattle.std.specs.Prelude.{◌≡◌, [], ◌∷◌, map, ◌+◌, ◌≤◌, ◌<◌, T, length, IsOkAnd};
+ghost use Rattle.std.specs.Prelude.{◌≡◌, [], ◌∷◌, map, ◌+◌, ◌≤◌, ◌<◌, T, length};
 ghost use Rattle.laws.specs.Lists.{all_of};
 ghost use Rattle.symbol.specs.Symbols.{data_symbol};
 ghost use Rattle.character_rules.specs.Disparity.{is_disparity};
@@ -18,40 +18,40 @@ use symbol::Symbol;
 // The output and what is written so far go side by side: a struct over the output would have each contract say that its loan is still the same one.
 // That the disparity is one stands in each contract: a type with that as its invariant would have the fields of `Written` a second time.
 
-// One character after those that are written.
-fn put(out: &mut [u16], w: Written, s: Symbol) -> Result<Written, Refusal>
+// One character after those that are written. What can be written, at a disparity, is not refused: no answer is handed on for each character.
+fn put(out: &mut [u16], w: Written, s: Symbol) -> Written
     requires { (w.count < length out.old) × T (can_write s) × T (is_disparity w.disparity) }
-    ensures { IsOkAnd result (Wrote w (s ∷ []) out.old out.new) }
+    ensures { Wrote w (s ∷ []) out.old out.new result }
 {
-    let encoded = character_writer::write(s, w.disparity)?;
+    let encoded = character_writer::write(s, w.disparity).unwrap();
     out[w.count] = encoded.character;
-    Ok(Written {
+    Written {
         count: w.count + 1,
         disparity: encoded.disparity,
-    })
+    }
 }
 
-fn put_symbols(out: &mut [u16], from: Written, symbols: &[Symbol]) -> Result<Written, Refusal>
+fn put_symbols(out: &mut [u16], from: Written, symbols: &[Symbol]) -> Written
     requires { (from.count + length symbols.now ≤ length out.old) × T (all_of can_write symbols.now) × T (is_disparity from.disparity) }
-    ensures { IsOkAnd result (Wrote from symbols.now out.old out.new) }
+    ensures { Wrote from symbols.now out.old out.new result }
 {
     let mut w = from;
     for &s in symbols {
-        w = put(&mut *out, w, s)?;
+        w = put(&mut *out, w, s);
     }
-    Ok(w)
+    w
 }
 
 // The user bytes are written as one run.
-fn put_bytes(out: &mut [u16], w: Written, bytes: &[u8]) -> Result<Written, Refusal>
+fn put_bytes(out: &mut [u16], w: Written, bytes: &[u8]) -> Written
     requires { (w.count + length bytes.now ≤ length out.old) × T (is_disparity w.disparity) }
-    ensures { IsOkAnd result (Wrote w (map data_symbol bytes.now) out.old out.new) }
+    ensures { Wrote w (map data_symbol bytes.now) out.old out.new result }
 {
-    let disparity = run_writer::write_run(bytes, w.disparity, &mut out[w.count..])?;
-    Ok(Written {
+    let disparity = run_writer::write_run(bytes, w.disparity, &mut out[w.count..]).unwrap();
+    Written {
         count: w.count + bytes.len(),
         disparity,
-    })
+    }
 }
 
 fn end_symbol(bad: bool) -> Symbol
@@ -68,9 +68,9 @@ fn put_packet(
     opening: u8,
     bytes: &[u8],
     bad: bool,
-) -> Result<Written, Refusal>
+) -> Written
     requires { (from.count + (length bytes.now + 6) ≤ length out.old) × T (can_write start) × T (is_disparity from.disparity) }
-    ensures { IsOkAnd result (Wrote from (packet_symbols start opening bytes.now bad) out.old out.new) }
+    ensures { Wrote from (packet_symbols start opening bytes.now bad) out.old out.new result }
 {
     let o = Symbol::data(opening);
     let check = crc::check_of(bytes);
@@ -81,14 +81,14 @@ fn put_packet(
         Symbol::data(check[0]),
         Symbol::data(check[1]),
     ];
-    let opened = put_symbols(&mut *out, from, &head)?;
-    let filled = put_bytes(&mut *out, opened, bytes)?;
+    let opened = put_symbols(&mut *out, from, &head);
+    let filled = put_bytes(&mut *out, opened, bytes);
     put_symbols(&mut *out, filled, &tail)
 }
 
-fn put_lmp(out: &mut [u16], from: Written, t: u8, n: u8) -> Result<Written, Refusal>
+fn put_lmp(out: &mut [u16], from: Written, t: u8, n: u8) -> Written
     requires { (from.count + 4 ≤ length out.old) × T (is_disparity from.disparity) }
-    ensures { IsOkAnd result (Wrote from (lmp_symbols t n) out.old out.new) }
+    ensures { Wrote from (lmp_symbols t n) out.old out.new result }
 {
     let symbols = [
         Symbol::SLP,
@@ -115,7 +115,7 @@ pub fn write_data(
         count: 0,
         disparity,
     };
-    put_packet(&mut *out, from, Symbol::SDP, channel as u8, bytes, bad)
+    Ok(put_packet(&mut *out, from, Symbol::SDP, channel as u8, bytes, bad))
 }
 
 // One whole priority packet, for segments of S bytes.
@@ -137,7 +137,7 @@ pub fn write_priority(
         disparity,
     };
     let opening = (16 * segment + channel) as u8;
-    put_packet(&mut *out, from, Symbol::SPP, opening, bytes, bad)
+    Ok(put_packet(&mut *out, from, Symbol::SPP, opening, bytes, bad))
 }
 
 fn retry_byte(nack: bool) -> u8
@@ -161,5 +161,5 @@ pub fn write_lmp(
         count: 0,
         disparity,
     };
-    put_lmp(&mut *out, from, retry_byte(nack), number as u8)
+    Ok(put_lmp(&mut *out, from, retry_byte(nack), number as u8))
 }

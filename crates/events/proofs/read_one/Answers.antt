@@ -3,8 +3,8 @@ use mathlib.Core.Path.{refl, ap, ◌∙◌}
 use Rattle.std.specs.Prelude.{Result}
 use Rattle.refusal.specs.declared.Refusal.{Refusal}
 use Rattle.packet_rules.specs.declared.Event.{Event}
-use Rattle.packet_rules.specs.Answers.{answer_says}
-use Rattle.events_rules.specs.Numbers.{packed_event}
+use Rattle.events_rules.specs.Numbers.{packed_answer}
+use Rattle.events_rules.proofs.Numbers.{packed_says}
 use Rattle.events.proofs.Steps.{one_is}
 use Rattle.events.proofs.read_one.Goals as goal
 
@@ -12,7 +12,7 @@ pub returns : goal.returns
 returns c = let a = c.args in (
   one_is a.source.now a.from a.events.now c.requires.0 c.requires.1 c.result_at-result.result c.event_number.result c.unpack_result.result _
       c.result_at-result.ensures c.unpack_result.ensures
-      (c.event_number.ensures ∙ ap (λ (x : Result Event Refusal). packed_event (answer_says x)) c.advance-answer.ensures.0) c.advance-answer.ensures.1,
+      (c.event_number.ensures ∙ ap (λ (x : Result Event Refusal). packed_answer x) c.advance-answer.ensures.0 ∙ packed_says _) c.advance-answer.ensures.1,
   refl,
 )
 
@@ -21,5 +21,5 @@ invariant_of-result c = let a = c.args in
     record {
       rule = (one_is a.source.now a.from a.events.now c.requires.0 c.requires.1 c.result_at-result.result c.event_number.result c.unpack_result.result _
           c.result_at-result.ensures c.unpack_result.ensures
-          (c.event_number.ensures ∙ ap (λ (x : Result Event Refusal). packed_event (answer_says x)) c.advance-answer.ensures.0) c.advance-answer.ensures.1).rule;
+          (c.event_number.ensures ∙ ap (λ (x : Result Event Refusal). packed_answer x) c.advance-answer.ensures.0 ∙ packed_says _) c.advance-answer.ensures.1).rule;
     }

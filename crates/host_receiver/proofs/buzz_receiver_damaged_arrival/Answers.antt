@@ -1,5 +1,5 @@
 -- The reply goes out, and the receiver stays; a refusal is answered with its number, and leaves all as it stood.
-use Rattle.std.proofs.Common.{ℕ, List, slice_index_or}
+use Rattle.std.proofs.Common.{ℕ, List, rules, slice_index_or}
 use mathlib.Core.Path.{sym, ap, ◌∙◌}
 use Rattle.retry_rules.specs.declared.Receiver.{Receiver}
 use Rattle.retry_rules.specs.Answers.{ArrivalAnswer, arrival_beside}
@@ -9,6 +9,7 @@ use Rattle.host_rules.specs.Numbers.{mark_number}
 use Rattle.host_retry_rules.specs.ReceiverBytes.{receiver_in, receiver_bytes}
 use Rattle.host_retry_rules.proofs.Called.{done_refusal, done_lent, refused_refusal, refused_lent}
 use Rattle.host_calls.specs.ReceiverCalls.{ArrivesDamaged, arrives_damaged}
+use Rattle.host_receiver.proofs.Stays.{receiver_stays}
 use Rattle.host_receiver.proofs.buzz_receiver_damaged_arrival.Goals as goal
 
 pub returns-in-Ok : goal.returns-in-Ok
@@ -19,7 +20,7 @@ returns-in-Ok c =
     let e = ap (λ (a : ArrivalAnswer). a.refusal) said in
     let made = done_lent _ _ _ e in (
       done_refusal _ _ _ e,
-      c.receiver_bytes.ensures ∙ ap receiver_bytes (given ∙ sym (damaged_leaves (receiver_in c.args.receiver.now)))
+      sym (receiver_stays c.args.receiver.now (search rules) (search rules)) ∙ ap receiver_bytes (sym (damaged_leaves (receiver_in c.args.receiver.now)))
           ∙ ap (λ (t : ArrivesDamaged). t.receiver) made,
       ap (λ (l : List ℕ). slice_index_or l 0 0) c.reply_numbers.ensures ∙ ap (λ (a : ArrivalAnswer). mark_number a.nack) said
           ∙ ap (λ (t : ArrivesDamaged). t.nack) made,

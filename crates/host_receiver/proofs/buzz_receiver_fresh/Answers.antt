@@ -9,4 +9,4 @@ pub returns-in-Err : goal.returns-in-Err
 unfolding begins_receiver
 returns-in-Err c =
     let e = ap (λ (a : Begun). a.refusal) c.in-Err.ensures in
-    (c.from.ensures ∙ refused_refusal _ _ _ c.in-Err.refusal e, refused_lent _ _ _ c.in-Err.refusal e)
+    (c.from.ensures ∙ refused_refusal _ _ _ c.in-Err.refused e, refused_lent _ _ _ c.in-Err.refused e)

@@ -21,4 +21,4 @@ pub returns-in-Err : goal.returns-in-Err
 unfolding hears_damaged
 returns-in-Err c =
     let e = c.in-Err.ensures ∙ ap (λ (s : Sender). (damaged_reply_of s).refusal) c.sender_in-state.ensures in
-    (c.from.ensures ∙ refused_refusal _ _ _ c.in-Err.refusal e, refused_lent _ _ _ c.in-Err.refusal e)
+    (c.from.ensures ∙ refused_refusal _ _ _ c.in-Err.refused e, refused_lent _ _ _ c.in-Err.refused e)

@@ -16,8 +16,8 @@ none = record { byte = 0; control = false }
 pub loop-s-init : goal.loop-s-init
 loop-s-init c = (omega arith, wrote_none _ _, refl)
 
-pub put-requires : goal.put-requires
-put-requires c =
+pub put-w-requires : goal.put-w-requires
+put-w-requires c =
     let a = c.args in
     let l = c.loop-s in
     let xs = a.symbols.now in
@@ -35,6 +35,6 @@ loop-s-preserved c =
     let xs = a.symbols.now in
     let h : l.s-index < length xs = omega (arith, c.loop-s-test.true) in (
       omega (arith, h),
-      one_turn a.from xs a.out.now l.s-index none h c.requires.0 l.invariant.1 c.in_ok-w.ensures,
-      c.put.auto.out ∙ l.invariant.2,
+      one_turn a.from xs a.out.now l.s-index none h c.requires.0 l.invariant.1 c.put-w.ensures,
+      c.put-w.auto.out ∙ l.invariant.2,
     )

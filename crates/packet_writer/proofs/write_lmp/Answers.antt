@@ -4,11 +4,12 @@ use lib.IntN.{ℤ}
 use lib.ListN.{length}
 use mir.Syntax.{w32}
 use mir.ValLaws.{to_z-of_z}
+use Rattle.std.specs.Prelude.{Ok}
 use Rattle.std.proofs.lemmas.Result.{err_from_is_err_and}
 use Rattle.refusal.specs.declared.Refusal.{Refusal}
 use Rattle.refusal.specs.Order.{number_of, refusal_of}
 use Rattle.packet_rules.specs.Packets.{retry, symbols_of, packet_checks, not_wrote, written_says}
-use Rattle.packet_writer.proofs.Outcome.{refused_with, written_all}
+use Rattle.packet_writer.proofs.Outcome.{refused_as, written_all}
 use Rattle.packet_writer.proofs.write_lmp.Goals as goal
 
 pub returns-in_err-may_write_lmp : goal.returns-in_err-may_write_lmp
@@ -18,7 +19,7 @@ returns-in_err-may_write_lmp c =
     let m = retry a.nack a.number in
     let z = to_z-of_z w32 d c.ranges.disparity in
     let e = c.in_err-may_write_lmp.ensures ∙ ap (λ (x : ℤ). refusal_of (packet_checks 0 m x (length a.out.now))) z in
-    let w = refused_with 0 m d a.out.now c.in_err-may_write_lmp.field-0.0 (sym e) in
+    let w = refused_as 0 m d a.out.now c.in_err-may_write_lmp.field-0.0 (sym e) in
     let p = err_from_is_err_and c.from_residual.result c.from_residual.ensures.1 in
     (ap written_says p.1 ∙ ap (λ (x : Refusal). not_wrote (number_of x)) p.2 ∙ w.0, w.1)
 
@@ -30,4 +31,4 @@ returns c =
     let m = retry a.nack a.number in
     let z = to_z-of_z w32 d c.ranges.disparity in
     let e = c.in_ok-may_write_lmp.ensures ∙ ap (λ (x : ℤ). refusal_of (packet_checks 0 m x (length a.out.now))) z in
-    written_all 0 m d a.out.now c.put_lmp.result (sym e) (rw (z, c.retry_byte.ensures) at c.put_lmp.ensures)
+    written_all 0 m d a.out.now (Ok c.put_lmp.result) (sym e) (rw (z, c.retry_byte.ensures) at c.put_lmp.ensures)

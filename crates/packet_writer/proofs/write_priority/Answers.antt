@@ -6,6 +6,7 @@ use lib.IntN.{ℤ}
 use lib.ListN.{length}
 use mir.Syntax.{w32}
 use mir.ValLaws.{to_z-of_z}
+use Rattle.std.specs.Prelude.{Ok}
 use Rattle.laws.proofs.Bools.{true_t}
 use Rattle.std.proofs.lemmas.Result.{err_from_is_err_and}
 use Rattle.refusal.specs.declared.Refusal.{Refusal}
@@ -14,7 +15,7 @@ use Rattle.symbol.specs.Symbols.{is_twelve}
 use Rattle.character_rules.specs.Disparity.{is_disparity}
 use Rattle.packet_rules.specs.Packets.{in_priority, packet_checks, not_wrote, written_says}
 use Rattle.packet_writer.proofs.Passed.{priority_passed}
-use Rattle.packet_writer.proofs.Outcome.{refused_with, priority_all}
+use Rattle.packet_writer.proofs.Outcome.{refused_as, priority_all}
 use Rattle.packet_writer.proofs.write_priority.Goals as goal
 
 pub returns-in_err-may_write_priority : goal.returns-in_err-may_write_priority
@@ -24,7 +25,7 @@ returns-in_err-may_write_priority c =
     let m = in_priority a.channel a.segment a.bytes.now a.bad in
     let z = to_z-of_z w32 d c.ranges.disparity in
     let e = c.in_err-may_write_priority.ensures ∙ ap (λ (x : ℤ). refusal_of (packet_checks a.size m x (length a.out.now))) z in
-    let w = refused_with a.size m d a.out.now c.in_err-may_write_priority.field-0.0 (sym e) in
+    let w = refused_as a.size m d a.out.now c.in_err-may_write_priority.field-0.0 (sym e) in
     let p = err_from_is_err_and c.from_residual.result c.from_residual.ensures.1 in
     (ap written_says p.1 ∙ ap (λ (x : Refusal). not_wrote (number_of x)) p.2 ∙ w.0, w.1)
 
@@ -46,5 +47,5 @@ returns c =
     let m = in_priority a.channel a.segment a.bytes.now a.bad in
     let z = to_z-of_z w32 d c.ranges.disparity in
     let e = c.in_ok-may_write_priority.ensures ∙ ap (λ (x : ℤ). refusal_of (packet_checks a.size m x (length a.out.now))) z in
-    priority_all a.size a.channel a.segment a.bytes.now a.bad d a.out.now c.put_packet.result (16 * a.segment + a.channel) refl (sym e)
+    priority_all a.size a.channel a.segment a.bytes.now a.bad d a.out.now (Ok c.put_packet.result) (16 * a.segment + a.channel) refl (sym e)
     (rw z at c.put_packet.ensures)
