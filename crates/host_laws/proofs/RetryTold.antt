@@ -11,7 +11,7 @@ use Rattle.refusal.specs.declared.Refusal.TheVariants.{OutOfRange, SegmentSize, 
 use Rattle.refusal.specs.Order.{number_of, refusal_says, order_says}
 use Rattle.character_rules.specs.declared.Decoded.{Decoded}
 use Rattle.character_rules.specs.Answers.{decoded_says}
-use Rattle.character_rules.proofs.Told.{the_refusal, one_decoded}
+use Rattle.character_rules.proofs.Told.{the_refusal, refusal_told as its_refusal, one_decoded}
 use Rattle.capture_rules.specs.Panes.{Move, move_says, moved_says}
 use Rattle.events_rules.specs.Answers.{ReadAnswer, read_says}
 use Rattle.retry_rules.specs.declared.Sender.{Sender}
@@ -39,19 +39,9 @@ refused LinkDown x = refl
 refused BadCapture x = refl
 
 -- the refusals of a run of numbers
-number_told : (r : Refusal) → the_refusal (number_of r) ≡ r
-number_told OutOfRange = refl
-number_told SegmentSize = refl
-number_told NotWritable = refl
-number_told NoBytes = refl
-number_told Full = refl
-number_told ShortOutput = refl
-number_told LinkDown = refl
-number_told BadCapture = refl
-
 order_told : (rs : List Refusal) → map the_refusal (order_says rs) ≡ rs
 order_told [] = refl
-order_told (r ∷ rs) = λ i. number_told r i ∷ order_told rs i
+order_told (r ∷ rs) = λ i. its_refusal r i ∷ order_told rs i
 
 -- where an answer is made again from what it says, two that say the same are the same
 module _ {A S : Type 0} (says : A → S) (again : S → A) (told : (a : A) → again (says a) ≡ a) where
