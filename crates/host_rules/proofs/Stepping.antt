@@ -19,8 +19,10 @@ use Rattle.character_rules.specs.declared.Decoded.TheVariants.{Clean, WrongDispa
 use Rattle.packet_rules.specs.declared.Reader.{Reader}
 use Rattle.packet_rules.specs.declared.Event.{Event}
 use Rattle.packet_rules.specs.declared.Event.TheVariants.{Nothing, StartData, StartPriority, Byte, End, Lmp, Violation as Violates}
-use Rattle.packet_rules.specs.Answers.{Made, made, not_made, Said, refused, event_says}
+use Rattle.packet_rules.specs.Answers.{Made, made, not_made, Said, Answer, refused, OneOfTen, event_says}
 use Rattle.packet_rules.specs.Step.{refused_step, step_of}
+use Rattle.packet_rules.proofs.Choice.{by_outcome}
+use Rattle.packet_rules.proofs.Violated.{silent_one_of_ten, gives_one_of_ten}
 use Rattle.host_rules.specs.Numbers.{or_old}
 use Rattle.host_rules.specs.Characters.{symbol_of}
 use Rattle.host_rules.specs.ReaderBytes.{reader_bytes, reader_in, is_reader, loaded}
@@ -104,6 +106,14 @@ module _ (bytes : List ℕ) (violation byte control : ℕ) where
         (λ t. let one : n ≡ 1 = ap (λ (r : Reading). r.refusal) (e ∙ read_wrong violation byte control t) in simp (reader, t, one))
         (λ f. absurd (some_is_not_none
         (sym (has_disparity violation byte control) ∙ sym (ap (λ (r : Reading). r.disparity) (e ∙ read_right violation byte control f)))))
+
+-- a violation that it gives is one of the ten
+pub numbers_one_of_ten : (bytes : List ℕ) (violation byte control : ℕ) → OneOfTen (step_numbers bytes violation byte control).said
+unfolding step_numbers
+numbers_one_of_ten bytes violation byte control =
+    by_outcome (λ (a : Answer). OneOfTen a.said) (number_checks bytes violation byte) (refused_step (reader_in bytes))
+    (step_of (reader_in bytes) (result_of violation byte control)) (λ m. silent_one_of_ten (refused m) refl)
+    (gives_one_of_ten (reader_in bytes) (result_of violation byte control))
 
 -- ---- what the bytes are loaded as
 

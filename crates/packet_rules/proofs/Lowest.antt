@@ -3,9 +3,10 @@
 use mathlib.Core.Path.{◌≡◌, refl, sym, ◌∙◌}
 use mathlib.Core.Bool.{Bool, true, false}
 use mathlib.Core.List.{List, [], ◌∷◌}
-use Prim.Native.Nat.{ℕ, zero, suc, ◌+◌}
+use Prim.Native.Nat.{ℕ, zero, suc, ◌+◌, ◌<◌}
 use native.Mathlib.Nat.{add-zero, add-suc, suc-add}
 use native.Mathlib.Omega.{arith}
+use lib.ListN.{length}
 use Rattle.packet_rules.specs.Violations.{lowest}
 
 -- none of the conditions holds
@@ -46,3 +47,9 @@ lowest_first_lem n (true ∷ bs) m e = (0, (omega arith, refl))
 lowest_first_lem n (false ∷ bs) m e =
     let t = lowest_first_lem (suc n) bs m e in
     (suc t.0, (let q = t.1.0 in omega arith, (refl, t.1.1)))
+
+-- and it is the number of one of them, or 0
+pub lowest_within : (n : ℕ) (bs : List Bool) → lowest (suc n) bs < suc n + length bs
+lowest_within n [] = omega arith
+lowest_within n (true ∷ bs) = omega arith
+lowest_within n (false ∷ bs) = let h = lowest_within (suc n) bs in omega (arith, h)

@@ -1,11 +1,11 @@
 -- What a violation leaves: seen from outside, by the number that the step gives.
 -- Assumes nothing.
-use mathlib.Core.Path.{◌≡◌, refl, sym, ap, ◌∙◌}
+use mathlib.Core.Path.{◌≡◌, refl, sym, ap, subst, ◌∙◌}
 use mathlib.Core.Bool.{Bool, true, false, ◌&&◌}
 use mathlib.Core.Option.{none, some, none-ne-some, some-injective}
-use Prim.Native.Nat.{ℕ, ◌+◌, ◌/◌, ◌%◌}
+use Prim.Native.Nat.{ℕ, zero, suc, ◌+◌, ◌/◌, ◌%◌, ◌<◌}
 use native.Mathlib.Omega.{arith}
-use borrow.Author.Tests.{eq-eqb, ne_eqb}
+use borrow.Author.Tests.{eq-eqb, ne_eqb, eqb-false}
 use lib.Dec.{eqb, ltb}
 use Rattle.character_rules.specs.Answers.{Reading}
 use Rattle.packet_rules.specs.declared.Kind.{Kind}
@@ -17,11 +17,13 @@ use Rattle.packet_rules.specs.declared.Due.TheVariants.{Channel, Opening, Closin
 use Rattle.packet_rules.specs.declared.Phase.{Phase}
 use Rattle.packet_rules.specs.declared.Phase.TheVariants.{Free, Next, Idles, Dropping}
 use Rattle.packet_rules.specs.declared.Reader.{Reader}
-use Rattle.packet_rules.specs.Answers.{Said, Answer, nothing, ended, replied, violated}
+use Rattle.packet_rules.specs.declared.Violation.{Violation}
+use Rattle.packet_rules.specs.declared.Violation.TheVariants.{Invalid, WrongDisparity, Unsupported as NoSymbol, OutOfPlace, Channel as WrongChannel, Crc, LmpCheck as WrongCheck, NoByte, Outside, TooLong}
+use Rattle.packet_rules.specs.Answers.{Said, Answer, nothing, ended, replied, violated, violation_number, OneOfTen}
 use Rattle.packet_rules.specs.State.{well_formed}
 use Rattle.packet_rules.specs.Violations.{ten_conditions, violation_of}
 use Rattle.packet_rules.specs.Step.{user_byte, free_move, closes_own, lmp_said, due_move, byte_of, move, broken, awakens, dropped, is_dropping, judged, kind_in, symbol_in, is_result, read_of, step_checks, refused_step, step_of}
-use Rattle.packet_rules.proofs.Lowest.{NoneOf, FirstAt, none_lowest, first_lowest}
+use Rattle.packet_rules.proofs.Lowest.{NoneOf, FirstAt, none_lowest, first_lowest, lowest_within}
 use Rattle.packet_rules.proofs.Choice.{either, by_outcome}
 
 -- ---- a step that is not refused
@@ -140,6 +142,48 @@ after_violation r g =
     (λ f. either (Breaks r) (eqb n 0) (move r.phase k r) (broken n r)
     (λ q. mute r (move r.phase k r) (move_silent r.phase k r))
     (λ q m h. ap (λ (x : ℕ). broken x r) (some-injective _ _ (sym (broken_said n r) ∙ h)))))
+
+-- ---- every violation is one of the ten
+
+ten : (n : ℕ) → (n ≡ 0 → ⊥) → n < 11 → (v : Violation) × (violation_number v ≡ n)
+ten zero some_one h = absurd (some_one refl)
+ten (suc zero) some_one h = (Invalid, refl)
+ten (suc (suc zero)) some_one h = (WrongDisparity, refl)
+ten (suc (suc (suc zero))) some_one h = (NoSymbol, refl)
+ten (suc (suc (suc (suc zero)))) some_one h = (OutOfPlace, refl)
+ten (suc (suc (suc (suc (suc zero))))) some_one h = (WrongChannel, refl)
+ten (suc (suc (suc (suc (suc (suc zero)))))) some_one h = (Crc, refl)
+ten (suc (suc (suc (suc (suc (suc (suc zero))))))) some_one h = (WrongCheck, refl)
+ten (suc (suc (suc (suc (suc (suc (suc (suc zero)))))))) some_one h = (NoByte, refl)
+ten (suc (suc (suc (suc (suc (suc (suc (suc (suc zero))))))))) some_one h = (Outside, refl)
+ten (suc (suc (suc (suc (suc (suc (suc (suc (suc (suc zero)))))))))) some_one h = (TooLong, refl)
+ten (suc (suc (suc (suc (suc (suc (suc (suc (suc (suc (suc n))))))))))) some_one h = absurd (omega (arith, h))
+
+within_ten : (r : Reader) (g : Reading) (x : Kind) → violation_of r g x < 11
+unfolding violation_of
+within_ten r g x = lowest_within 0 (ten_conditions r g x)
+
+pub silent_one_of_ten : (s : Said) → s.violation ≡ none → OneOfTen s
+silent_one_of_ten s h n e = absurd (none-ne-some n (sym h ∙ e))
+
+pub gives_one_of_ten : (r : Reader) (g : Reading) → OneOfTen (step_of r g).said
+unfolding step_of read_of
+gives_one_of_ten r g =
+    let k = kind_in g.symbol in
+    let n = violation_of r g k in
+    by_outcome Gives (step_checks r g) (refused_step r) (read_of r g k) (λ m. mutes (refused_step r m) refl)
+    (either Gives (is_dropping r.phase) (dropped g k r) (judged n k r) (λ f. mutes (dropped g k r) (dropped_silent g k r))
+    (λ f. either Gives (eqb n 0) (move r.phase k r) (broken n r)
+    (λ q. mutes (move r.phase k r) (move_silent r.phase k r))
+    (λ q m h.
+    let same : n ≡ m = some-injective _ _ (sym (broken_said n r) ∙ h) in
+    ten m (λ z. eqb-false n 0 q (same ∙ z)) (subst (λ (x : ℕ). x < 11) same (within_ten r g k)))))
+  where
+    Gives : Answer → Type 0
+    Gives a = OneOfTen a.said
+
+    mutes : (a : Answer) → Silent a → Gives a
+    mutes a h = silent_one_of_ten a.said h
 
 -- ---- document 01's sentences, of every step
 

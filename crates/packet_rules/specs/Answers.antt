@@ -1,5 +1,5 @@
 -- What the answers say, in document 01's numbers and values.
-use Rattle.std.specs.Prelude.{ℕ, Bool, Result, Ok, Err}
+use Rattle.std.specs.Prelude.{◌≡◌, ℕ, Bool, Result, Ok, Err}
 use Rattle.std.proofs.Math.Option.{Option, none, some}
 use Rattle.refusal.specs.declared.Refusal.{Refusal}
 use Rattle.refusal.specs.Order.{number_of}
@@ -61,6 +61,10 @@ violation_number LmpCheck = 7
 violation_number NoByte = 8
 violation_number Outside = 9
 violation_number TooLong = 10
+
+-- a violation that is said is one of the ten
+abbrev pub OneOfTen : Said → Type 0
+OneOfTen s = (n : ℕ) → s.violation ≡ some n → (v : Violation) × (violation_number v ≡ n)
 
 abbrev pub event_says : Event → Said
 event_says Nothing = nothing
