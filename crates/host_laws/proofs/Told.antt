@@ -1,6 +1,6 @@
 -- The numbers that C gets tell all answers of a step apart: from them the event, or the refusal, is had again. So they do of all that a step may say.
 -- Assumes nothing.
-use Prim.Native.Nat.{ℕ}
+use Prim.Native.Nat.{ℕ, ◌<◌}
 use mathlib.Core.Path.{◌≡◌, refl, ap, sym, ◌∙◌}
 use mathlib.Core.Bool.{Bool, true, false, cond}
 use native.Mathlib.Omega.{arith}
@@ -12,9 +12,11 @@ use Rattle.refusal.specs.declared.Refusal.{Refusal}
 use Rattle.refusal.specs.declared.Refusal.TheVariants.{OutOfRange, SegmentSize, NotWritable, NoBytes, Full, ShortOutput, LinkDown, BadCapture}
 use Rattle.refusal.specs.Order.{number_of}
 use Rattle.refusal.proofs.Answers.{has_number}
+use Rattle.packet_rules.specs.declared.Violation.{Violation}
+use Rattle.packet_rules.specs.declared.Violation.TheVariants.{Invalid, WrongDisparity, Unsupported, OutOfPlace, Channel, Crc, LmpCheck, NoByte, Outside, TooLong}
 use Rattle.packet_rules.specs.declared.Event.{Event}
 use Rattle.packet_rules.specs.declared.Event.TheVariants.{Nothing, StartData, StartPriority, Byte, End, Lmp, Violation as Violates}
-use Rattle.packet_rules.specs.Answers.{Said, nothing, started, gave_byte, ended, replied, violated, refused, answer_says}
+use Rattle.packet_rules.specs.Answers.{Said, nothing, started, gave_byte, ended, replied, violated, refused, answer_says, violation_number, OneOfTen}
 use Rattle.packet_rules.proofs.Told.{the_refusal}
 use Rattle.host_rules.specs.Answers.{Told}
 use Rattle.host_rules.specs.Numbers.{mark_of}
@@ -102,3 +104,23 @@ says_one_of (Ok (End bad)) = of_end bad
 says_one_of (Ok (Lmp nack n)) = of_lmp nack n
 says_one_of (Ok (Violates n)) = of_violation n
 says_one_of (Err r) = of_refusal (number_of r) (λ z. let p = has_number r in omega (arith, p, z))
+
+-- ---- a violation under 0, or under a number over 10, is none of the ten: a step that said one would break the law
+
+numbered : (v : Violation) → (0 < violation_number v) × (violation_number v < 11)
+numbered Invalid = (omega arith, omega arith)
+numbered WrongDisparity = (omega arith, omega arith)
+numbered Unsupported = (omega arith, omega arith)
+numbered OutOfPlace = (omega arith, omega arith)
+numbered Channel = (omega arith, omega arith)
+numbered Crc = (omega arith, omega arith)
+numbered LmpCheck = (omega arith, omega arith)
+numbered NoByte = (omega arith, omega arith)
+numbered Outside = (omega arith, omega arith)
+numbered TooLong = (omega arith, omega arith)
+
+pub zeroth_refuted : OneOfTen (violated 0) → ⊥
+zeroth_refuted h = let t = h 0 refl in let v = numbered t.0 in omega (arith, v.0, t.1)
+
+pub eleventh_refuted : (n : ℕ) → 10 < n → OneOfTen (violated n) → ⊥
+eleventh_refuted n over h = let t = h n refl in let v = numbered t.0 in omega (arith, over, v.1, t.1)
